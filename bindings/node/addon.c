@@ -1,13 +1,14 @@
 /* The library's calls for lib/calls.js, which checks the types of arguments. The limits are an Uint32Array of the words of a
- * firthnapkin_limits, and `allocate` makes an ArrayBuffer of so many bytes:
+ * firthnapkin_limits and of limits on sizes, and `allocate` makes an ArrayBuffer of so many bytes:
  *
- *     parse(buffer, limits, allocate)     the nodes, and their texts
+ *     parse(buffer, limits, allocate)     the nodes, and their texts; with a limit on sizes the complexities, too
+ *     complexities(buffer, allocate)      no parts, and the complexities of the operations
  *     tokens(buffer, tokens, allocate)    the tokens
  *     canonical(buffer, allocate)         the canonical text
  *     excerpt(buffer, byte, allocate)     the lines around a byte
  *
- * Each returns { status, parts, texts }: the name of its status, an ArrayBuffer of nodes, of tokens or of the error, and one of
- * texts or of the error's words. */
+ * Each returns { status, parts, texts, complexities }: the name of its status, an ArrayBuffer of nodes, of tokens or of the error,
+ * one of texts or of the error's words, and one of complexities if any were found. */
 #define _GNU_SOURCE
 #include "whole.h"
 
@@ -43,21 +44,27 @@ static napi_status copied(napi_env env, napi_value allocate, const void *from, s
     return napi_ok;
 }
 
-/* What a call found: so many bytes of parts, or the error. Frees the result. */
+static const char *status_name(uint32_t status) {
+    return status == OPERATION_TOO_LARGE ? "operation_too_large" : firthnapkin_status_name(status);
+}
+
+/* What a call found: so many bytes of parts, or the error, and the complexities. Frees the result. */
 static napi_value result_of(napi_env env, whole *w, const void *parts, size_t size, napi_value allocate) {
-    int is_error = w->status == FIRTHNAPKIN_SYNTAX_ERROR || w->status == FIRTHNAPKIN_TOO_DEEP
-        || w->status == FIRTHNAPKIN_TOO_MANY_TOKENS;
+    size_t complexities = w->status == FIRTHNAPKIN_OK && w->complexities != NULL ? w->complexities_count : 0;
     napi_value result, value;
-    if (is_error) {
+    if (has_error(w->status) || w->status == OPERATION_TOO_LARGE) {
         parts = &w->error;
         size = sizeof w->error;
     }
     if (w->status == FIRTHNAPKIN_OUT_OF_MEMORY)
         result = failed(env, "memory ran out");
     else if (napi_create_object(env, &result) != napi_ok
-             || !has(env, result, "status", text_of(env, firthnapkin_status_name(w->status), &value), &value)
+             || !has(env, result, "status", text_of(env, status_name(w->status), &value), &value)
              || !has(env, result, "texts", copied(env, allocate, w->texts, w->texts_count, &value), &value)
-             || !has(env, result, "parts", copied(env, allocate, parts, size, &value), &value))
+             || !has(env, result, "parts", copied(env, allocate, parts, size, &value), &value)
+             || (complexities != 0
+                 && !has(env, result, "complexities",
+                         copied(env, allocate, w->complexities, complexities * sizeof *w->complexities, &value), &value)))
         result = failed(env, "the result was not made");
     give_back(w);
     return result;
@@ -80,8 +87,14 @@ static int are_read(napi_env env, napi_callback_info info, size_t wanted, call_a
     return napi_get_buffer_info(env, values[0], &a->source, &a->length) == napi_ok;
 }
 
-/* Reads the limits between the two; false where they are others than a firthnapkin_limits has. */
-static int are_limits(napi_env env, napi_value value, firthnapkin_limits *limits) {
+/* Limits as they are passed. */
+typedef struct {
+    firthnapkin_limits call;
+    size_limits sizes;
+} package_limits;
+
+/* Reads the limits between the two; false where they are others than these. */
+static int are_limits(napi_env env, napi_value value, package_limits *limits) {
     napi_typedarray_type type;
     size_t length;
     void *words;
@@ -102,11 +115,18 @@ static int is_number(napi_env env, napi_value value, uint32_t *number) {
 
 static napi_value parse(napi_env env, napi_callback_info info) {
     call_arguments a;
-    firthnapkin_limits limits;
+    package_limits limits;
     if (!are_read(env, info, 3, &a) || !are_limits(env, a.other, &limits))
         return failed(env, "parse takes a buffer, limits and a function");
-    whole w = parse_whole(a.source, a.length, &limits);
+    whole w = document_whole(a.source, a.length, &limits.call, &limits.sizes);
     return result_of(env, &w, w.nodes, w.nodes_count * sizeof *w.nodes, a.allocate);
+}
+
+static napi_value complexities(napi_env env, napi_callback_info info) {
+    call_arguments a;
+    if (!are_read(env, info, 2, &a)) return failed(env, "complexities takes a buffer and a function");
+    whole w = complexities_whole(a.source, a.length);
+    return result_of(env, &w, NULL, 0, a.allocate);
 }
 
 static napi_value tokens(napi_env env, napi_callback_info info) {
@@ -147,6 +167,7 @@ static napi_status names(napi_env env, const char *name_of(uint32_t), napi_value
 NAPI_MODULE_INIT() {
     napi_value value;
     if (!has(env, exports, "parse", napi_create_function(env, "parse", NAPI_AUTO_LENGTH, parse, NULL, &value), &value)
+        || !has(env, exports, "complexities", napi_create_function(env, "complexities", NAPI_AUTO_LENGTH, complexities, NULL, &value), &value)
         || !has(env, exports, "tokens", napi_create_function(env, "tokens", NAPI_AUTO_LENGTH, tokens, NULL, &value), &value)
         || !has(env, exports, "canonical", napi_create_function(env, "canonical", NAPI_AUTO_LENGTH, canonical, NULL, &value), &value)
         || !has(env, exports, "excerpt", napi_create_function(env, "excerpt", NAPI_AUTO_LENGTH, excerpt, NULL, &value), &value)
@@ -155,6 +176,7 @@ NAPI_MODULE_INIT() {
         || !has(env, exports, "ERROR_KINDS", names(env, firthnapkin_error_kind_name, &value), &value)
         || !has(env, exports, "ERROR_DETAILS", names(env, firthnapkin_error_detail_name, &value), &value)
         || !has(env, exports, "LIMITS_LENGTH", napi_create_uint32(env, sizeof(firthnapkin_limits) / sizeof(uint32_t), &value), &value)
+        || !has(env, exports, "SIZES_LENGTH", napi_create_uint32(env, SIZES, &value), &value)
         || !has(env, exports, "MAX_DEPTH", napi_create_uint32(env, FIRTHNAPKIN_MAX_DEPTH, &value), &value)
         || !has(env, exports, "VERSION", text_of(env, FIRTHNAPKIN_VERSION_STRING, &value), &value))
         return failed(env, "the module was not made");

@@ -117,10 +117,32 @@ export interface Part extends Shown {
   toJSON(): NodeParts;
 }
 
+/**
+ * How large an operation is with every fragment expanded. A number above 4294967295 is that one. They are those of the source alone:
+ * no schema gives a field a weight, equal fields aren't merged, and `@skip` and `@include` leave nothing out.
+ */
+export interface Complexity {
+  /** The fields, at every depth. */
+  readonly fields: number;
+  /** The fields with an alias. */
+  readonly aliases: number;
+  /** The directives of the operation, of what is selected, and of a fragment each time that it is spread. */
+  readonly directives: number;
+  /** The fields that are in no other field. */
+  readonly rootFields: number;
+  /** How many fields are nested in one another at most: 1 if no field is in another. */
+  readonly depth: number;
+}
+
 /** A query, a mutation or a subscription. */
 export interface Operation extends Part {
   readonly kind: "query" | "mutation" | "subscription";
   readonly name: string | null;
+  /**
+   * How large it is. Those of all operations are found at once, when one is first read. Throws a FirthnapkinError if an operation
+   * of the document reaches a spread that names no fragment, or that is within the fragment that it names.
+   */
+  readonly complexity: Complexity;
   readonly variables: VariableDefinition[];
   readonly directives: Directive[];
   readonly selections: Selection[];
@@ -234,6 +256,12 @@ export type ErrorKind =
   | "tooDeep"
   /** A token is one too many. */
   | "tooManyTokens"
+  /** A spread names no fragment of the document. */
+  | "unknownFragment"
+  /** A spread is within the fragment that it names, itself or through others. */
+  | "fragmentCycle"
+  /** An operation exceeds a limit, with every fragment expanded: the message has the number and the limit. */
+  | "operationTooLarge"
   /** A half of a surrogate pair is alone, so the string can't be encoded as UTF-8. */
   | "surrogate";
 
@@ -268,7 +296,8 @@ export { Options };
 
 /**
  * The document that a source is. Throws a FirthnapkinError if it isn't one, a bracket is nested deeper, or a token is one too many,
- * before anything is built; a TypeError if the source is no string, a limit no number, or the options are no object or
+ * before anything is built; at the first operation beyond a limit on operations, and with such a limit at a spread that one can't
+ * be expanded with; a TypeError if the source is no string, a limit no number, or the options are no object or
  * have a name that `Options` lacks; a RangeError if a limit is no integer of its range; an Error if memory runs out.
  */
 export function parse(source: string, options?: Options): Document;

@@ -21,7 +21,7 @@ function parse(source, options = {}) {
   const limits = limitsOf(options);
   const bytes = bytesOf(source);
   const found = checked(source, addon.parse(bytes, limits, allocate));
-  return new Document(source, bytes, found.parts, found.texts);
+  return new Document(source, bytes, found.parts, found.texts, found.complexities);
 }
 
 // Node finds the names of a literal for `import { parse } from "firthnapkin"`.

@@ -2,9 +2,12 @@
 "use strict";
 
 const addon = require("../firthnapkin.node");
-const { LIMITS } = require("./limits");
+const { LIMITS, SIZES, UNLIMITED } = require("./limits");
 
 const LARGEST_WORD = 2 ** 32 - 1;
+
+// What each option is, by its name.
+const OPTIONS = { ...LIMITS, ...SIZES };
 
 // `curlyOpen` for `curly_open`.
 function camelCase(name) {
@@ -50,29 +53,44 @@ function integer(name, value, largest) {
   return value;
 }
 
+// `a`, `a and b`, `a, b and c`.
+function listed(names) {
+  return [names.slice(0, -1).join(", "), ...names.slice(-1)].filter(Boolean).join(" and ");
+}
+
 // The numbers of the limits with these names, of which those that options don't have are the default ones.
 function numbersOf(options, names) {
   if (typeOf(options) !== "object") throw new TypeError(`options must be an object, not ${typeOf(options)}`);
   for (const name of Reflect.ownKeys(options)) {
-    if (!names.includes(name)) throw new TypeError(`there is no option ${String(name)}, only ${names.join(" and ")}`);
+    if (!names.includes(name)) throw new TypeError(`there is no option ${String(name)}, only ${listed(names)}`);
   }
   return names.map((name) => {
-    const [standard, largest] = LIMITS[name];
+    const [standard, largest] = OPTIONS[name];
     const value = options[name];
     return value === undefined ? standard : integer(name, value, largest);
   });
 }
 
-// Limits as the library takes them. In the words that have no limit 0 is none. No source has more of anything than a word holds.
-function wordsOf(numbers) {
-  const words = allocated(() => new Uint32Array(addon.LIMITS_LENGTH));
+// Limits as the library takes them, and those on sizes after them. In the words that have no limit 0 is none. No source has more of
+// anything than a word holds.
+function wordsOf(numbers, sizes) {
+  const words = allocated(() => new Uint32Array(addon.LIMITS_LENGTH + addon.SIZES_LENGTH));
   words.set(numbers.map((number) => Math.min(number, LARGEST_WORD)));
+  words.set(sizes, addon.LIMITS_LENGTH);
   return words;
 }
 
+const OWN = Object.keys(LIMITS).length;
+
 // The limits of options.
 function limitsOf(options) {
-  return wordsOf(numbersOf(options, Object.keys(LIMITS)));
+  const numbers = numbersOf(options, Object.keys(OPTIONS));
+  return wordsOf(numbers.slice(0, OWN), numbers.slice(OWN));
+}
+
+// The loosest limits, of brackets nested this deep.
+function loosest(depth) {
+  return wordsOf([depth, Infinity], new Array(addon.SIZES_LENGTH).fill(UNLIMITED));
 }
 
 // The lines around a byte of a source that is encoded.
@@ -82,4 +100,4 @@ function excerptAt(bytes, byte) {
   return Buffer.from(texts).utf8Slice();
 }
 
-module.exports = { addon, allocate, allocated, encoded, excerptAt, limitsOf, namesOf, numbersOf, requireString, typeOf, wordsOf };
+module.exports = { addon, allocate, allocated, encoded, excerptAt, limitsOf, loosest, namesOf, numbersOf, requireString, typeOf };

@@ -3,7 +3,8 @@
 
 const { inspect } = require("util");
 
-const { addon, excerptAt, namesOf, requireString } = require("./calls");
+const { addon, allocate, excerptAt, namesOf, requireString } = require("./calls");
+const { checked } = require("./errors");
 const { Fragment, Operation } = require("./parts");
 const { Units } = require("./positions");
 const { floatOf, integerOf } = require("./values");
@@ -22,6 +23,18 @@ const END = 6;
 const NAME = 10;
 const VALUE = 12;
 const LENGTH = 14;
+
+// The numbers of an operation, which come after its node's index.
+const NUMBERS = ["fields", "aliases", "directives", "rootFields", "depth"];
+
+// How large each operation is, by the index of its node.
+function byOperation(complexities) {
+  const words = new Uint32Array(complexities);
+  const found = new Map();
+  for (let at = 0; at < words.length; at += 1 + NUMBERS.length)
+    found.set(words[at], Object.freeze(Object.fromEntries(NUMBERS.map((name, i) => [name, words[at + 1 + i]]))));
+  return found;
+}
 
 /** A part of a document, as the library writes it. */
 class Node {
@@ -149,9 +162,12 @@ function valueOrText(node) {
 class Document {
   #units;
   #parents;
+  #complexities;
+  #byOperation;
 
-  constructor(source, bytes, nodes, texts) {
+  constructor(source, bytes, nodes, texts, complexities) {
     this.source = source;
+    this.#complexities = complexities;
     Object.defineProperties(this, {
       bytes: { value: bytes },
       words: { value: new Uint32Array(nodes) },
@@ -178,6 +194,14 @@ class Document {
       this.#parents = parents;
     }
     return this.#parents;
+  }
+
+  // How large the operation of a node is. They are found when one is first asked for, unless the source was parsed within limits
+  // on them.
+  complexityOf(index) {
+    this.#complexities ??= checked(this.source, addon.complexities(this.bytes, allocate)).complexities;
+    this.#byOperation ??= byOperation(this.#complexities);
+    return this.#byOperation.get(index);
   }
 
   node(index) {

@@ -7,6 +7,12 @@ const { beginsSchema } = require("./schemas");
 
 // By their numbers.
 const KINDS = namesOf(addon.ERROR_KINDS);
+// The kind of an operation beyond a limit, which the library doesn't have.
+const TOO_LARGE = "operationTooLarge";
+// The statuses that come with an error.
+const WITH_ERROR = [
+  "syntax_error", "too_deep", "too_many_tokens", "unknown_fragment", "fragment_cycle", "operation_too_large",
+];
 const DETAILS = namesOf(addon.ERROR_DETAILS).map((name) => (name === "none" ? null : name));
 
 // The details that have a character.
@@ -58,7 +64,7 @@ function errorOf(source, numbers, texts) {
   const units = new Units(source);
   const detail = DETAILS[words[1]];
   const found = {
-    kind: KINDS[words[0]],
+    kind: KINDS[words[0]] ?? TOO_LARGE,
     detail,
     character: WITH_CHARACTER.includes(detail) ? String.fromCodePoint(words[2]) : null,
     start: units.position(words, 3),
@@ -78,9 +84,9 @@ function bytesOf(source) {
 }
 
 // What a call found, or an error.
-function checked(source, { status, parts, texts }) {
-  if (status === "ok") return { parts, texts: Buffer.from(texts) };
-  if (["syntax_error", "too_deep", "too_many_tokens"].includes(status)) throw errorOf(source, parts, texts);
+function checked(source, { status, parts, texts, complexities }) {
+  if (status === "ok") return { parts, texts: Buffer.from(texts), complexities };
+  if (WITH_ERROR.includes(status)) throw errorOf(source, parts, texts);
   // No string has 4 GiB.
   throw new Error(`the library returned ${status}`);
 }

@@ -4,6 +4,8 @@
 const { MAX_DEPTH } = require("../firthnapkin.node");
 
 const ANY = Number.MAX_SAFE_INTEGER;
+// The largest number of an operation stands for all above it, too, so it is no limit.
+const UNLIMITED = 2 ** 32 - 1;
 
 // Each is a line, in the order of firthnapkin_limits: its default, its largest number, and what its type says. In later ones 0 is none.
 const LIMITS = {
@@ -11,10 +13,20 @@ const LIMITS = {
   maxTokens: [ANY, ANY, "How many tokens the source may have, its end not counted; any number if it isn't given."],
 };
 
+// Those on each operation's complexity are a line, too, in the order of firthnapkin_complexity.
+const SIZES = {
+  maxFields: "How many fields an operation may have, with every fragment expanded.",
+  maxAliases: "How many fields with an alias it may have.",
+  maxDirectives: "How many directives it may have.",
+  maxRootFields: "How many of its fields may be in no other field.",
+  maxFieldDepth: "How many of its fields may be nested in one another.",
+};
+for (const [name, about] of Object.entries(SIZES)) SIZES[name] = [UNLIMITED, UNLIMITED - 1, about];
+
 /** The text of limits.d.ts, which build.js writes. */
 function declaration() {
-  const members = Object.entries(LIMITS).map(([name, [, , about]]) => `  /** ${about} */\n  ${name}?: number;\n`);
+  const members = Object.entries({ ...LIMITS, ...SIZES }).map(([name, [, , about]]) => `  /** ${about} */\n  ${name}?: number;\n`);
   return `export interface Options {\n${members.join("")}}\n`;
 }
 
-module.exports = { LIMITS, declaration };
+module.exports = { LIMITS, SIZES, UNLIMITED, declaration };

@@ -91,6 +91,10 @@ class Operation extends Part {
     return this.node.name;
   }
 
+  get complexity() {
+    return this.node.document.complexityOf(this.node.index);
+  }
+
   get variables() {
     return (childOf(this.node, "variableDefinitions")?.children ?? []).map((child) => new VariableDefinition(child));
   }

@@ -1,12 +1,12 @@
 // How a schema is recognised, which this parser doesn't read.
 "use strict";
 
-const { addon, allocate, encoded, wordsOf } = require("./calls");
+const { addon, allocate, encoded, loosest } = require("./calls");
 
 // The words with which a definition of a type system document begins. A description is a String.
 const KEYWORDS = new Set(["type", "schema", "extend", "directive", "scalar", "interface", "union", "enum", "input"]);
 
-const LOOSEST = wordsOf([addon.MAX_DEPTH, Infinity]);
+const LOOSEST = loosest(addon.MAX_DEPTH);
 
 // Whether an unexpected token, from one index to another, begins a definition of a schema, or its description: it does if what
 // is before it is a document, or has no tokens.

@@ -9,6 +9,8 @@ const { parse, tokens } = require("..");
 const { limitsOf } = require("../lib/calls");
 
 const LARGEST_WORD = 2 ** 32 - 1;
+const NO_SIZES = new Array(5).fill(LARGEST_WORD);
+const SIZES = ["maxFields", "maxAliases", "maxDirectives", "maxRootFields", "maxFieldDepth"];
 
 // What a call of the addon is given when this runs, which may throw.
 function given(name, run) {
@@ -31,8 +33,21 @@ test("each limit goes to its word, and the words that no limit has are 0", () =>
     ...[undefined, LARGEST_WORD, 2 ** 32, 2 ** 32 + 5, Number.MAX_SAFE_INTEGER].map((maxTokens) => [{ maxTokens }, 200, LARGEST_WORD]),
   ]) {
     const [[, limits]] = given("parse", () => parse("{a}", options));
-    assert.deepStrictEqual(limits, Uint32Array.of(depth, most, 0, 0, 0, 0, 0, 0));
+    assert.deepStrictEqual(limits, Uint32Array.of(depth, most, 0, 0, 0, 0, 0, 0, ...NO_SIZES));
   }
+});
+
+test("each limit on operations goes to its word, and no limit is the largest word", () => {
+  SIZES.forEach((name, i) => {
+    for (const [limit, wanted] of [[undefined, LARGEST_WORD], [0, 0], [7, 7], [LARGEST_WORD - 1, LARGEST_WORD - 1]]) {
+      const sizes = NO_SIZES.map((word, k) => (k === i ? wanted : word));
+      const [[, limits]] = given("parse", () => parse("{a}", { [name]: limit }));
+      assert.deepStrictEqual(limits, Uint32Array.of(200, LARGEST_WORD, 0, 0, 0, 0, 0, 0, ...sizes), name);
+    }
+    for (const limit of [-1, 1.5, NaN, Infinity, LARGEST_WORD, 2 ** 32, Number.MAX_SAFE_INTEGER])
+      assert.throws(() => parse("\ud800", { [name]: limit }), { name: "RangeError", message: `${name} must be an integer from 0 to 4294967294` });
+    for (const limit of [null, "5", 5n, true, {}]) assert.throws(() => parse("\ud800", { [name]: limit }), TypeError);
+  });
 });
 
 test("the number of tokens alone", () => {
@@ -42,7 +57,7 @@ test("the number of tokens alone", () => {
 
 test("what is before a schema's definition is parsed within the loosest limits", () => {
   const found = given("parse", () => parse("{a} type", { depth: 5, maxTokens: 9 })).map((words) => Array.from(words[1]));
-  assert.deepStrictEqual(found, [[5, 9, 0, 0, 0, 0, 0, 0], [1000, LARGEST_WORD, 0, 0, 0, 0, 0, 0]]);
+  assert.deepStrictEqual(found, [[5, 9, 0, 0, 0, 0, 0, 0, ...NO_SIZES], [1000, LARGEST_WORD, 0, 0, 0, 0, 0, 0, ...NO_SIZES]]);
 });
 
 test("limits are those of one call", () => {

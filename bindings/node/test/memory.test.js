@@ -27,7 +27,13 @@ const GROWTH = `
     "{a}".repeat(4000) + ")",
   ];
   const grown = sources.map((source) => {
-    const round = () => { try { parse(source); } catch (error) { if (!(error instanceof FirthnapkinError)) throw error; } };
+    const tried = (run) => { try { run(); } catch (error) { if (!(error instanceof FirthnapkinError)) throw error; } };
+    const round = () => {
+      tried(() => parse(source));
+      tried(() => parse(source, { maxFields: 0 }));
+      tried(() => parse(source, { maxFields: 9 }));
+      tried(() => parse(source).operations[0].complexity);
+    };
     for (let i = 0; i < 10; i++) round();
     gc();
     const before = process.memoryUsage().rss;
@@ -55,17 +61,19 @@ const LIMITED = `
 // What a source's result may be, however little memory there is.
 const LITTLE = `${LIMITED}
   const source = "{a}".repeat(1 << 15);
+  const spreads = "{" + "...F ".repeat(1 << 15) + "} fragment F on T { a }";
   const results = new Set();
+  function add(run) {
+    try { results.add(run()); } catch (error) { results.add(error.name + ": " + error.message); }
+    gc();
+  }
   for (let megabytes = 60; megabytes >= 3; megabytes -= 3) {
     limit(megabytes << 20);
-    for (const text of [source, source + ")"]) {
-      try {
-        results.add("nodes: " + parse(text).length);
-      } catch (error) {
-        results.add(error.name + ": " + error.message);
-      }
-      gc();
-    }
+    add(() => "nodes: " + parse(source).length);
+    add(() => parse(source + ")"));
+    add(() => "within: " + parse(spreads, { maxFields: 32768 }).operations[0].complexity.fields);
+    add(() => parse(spreads, { maxFields: 32767 }));
+    add(() => "fields: " + parse(spreads).operations[0].complexity.fields);
   }
   limit(2 ** 33);
   console.log(JSON.stringify([...results].sort()), parse("{ a }").length);
@@ -74,7 +82,10 @@ const LITTLE = `${LIMITED}
 const hasLimits = process.platform === "linux" && spawnSync("prlimit", ["--version"]).status === 0;
 
 test("a process with little memory", { skip: hasLimits ? false : "no prlimit, so memory is not limited" }, () => {
-  const wanted = ["Error: memory ran out", 'FirthnapkinError: Unexpected ")". At 1:98305', "nodes: 65536"];
+  const wanted = [
+    "Error: memory ran out", "FirthnapkinError: Too many fields in an operation without a name: 32768, with a limit of 32767. At 1:1",
+    'FirthnapkinError: Unexpected ")". At 1:98305', "fields: 32768", "nodes: 65536", "within: 32768",
+  ];
   assert.strictEqual(written(LITTLE, "--expose-gc").trim(), `${JSON.stringify(wanted)} 2`);
 });
 
@@ -103,16 +114,16 @@ test("the addon takes no other arguments", () => {
   const addon = require("../firthnapkin.node");
   const allocate = (size) => new ArrayBuffer(size);
   const source = Buffer.from("{ a }");
-  const limits = Uint32Array.of(5, 5, 0, 0, 0, 0, 0, 0);
+  const limits = Uint32Array.of(5, 5, 0, 0, 0, 0, 0, 0, ...new Array(5).fill(2 ** 32 - 1));
   assert.strictEqual(addon.parse(source, limits, allocate).parts.byteLength, 128);
-  const others = [5, 5n, "5", null, undefined, {}, Array.from(limits), limits.subarray(1), new Uint32Array(9), new Uint32Array(0)];
-  others.push(limits.buffer, new Int32Array(8), new Float32Array(8), new Uint8Array(8), new Uint8Array(32), new DataView(limits.buffer));
+  const others = [5, 5n, "5", null, undefined, {}, Array.from(limits), limits.subarray(1), new Uint32Array(8), new Uint32Array(14), new Uint32Array(0)];
+  others.push(limits.buffer, new Int32Array(13), new Float32Array(13), new Uint8Array(13), new Uint8Array(52), new DataView(limits.buffer));
   for (const words of [[], [source], [source, limits], ["{ a }", limits, allocate], ...others.map((other) => [source, other, allocate])])
     assert.throws(() => addon.parse(...words), { message: "parse takes a buffer, limits and a function" });
   for (const other of [5, () => 5, () => new ArrayBuffer(0), (size) => new ArrayBuffer(size + 1), (size) => Buffer.alloc(size)])
     assert.throws(() => addon.parse(source, limits, other), { message: "the result was not made" });
   // A depth out of range is refused by the library, and so is a word that has no limit. A number out of range is the largest one.
-  const status = (...words) => addon.parse(source, Uint32Array.from({ length: 8 }, (_, word) => words[word] ?? 0), allocate).status;
+  const status = (...words) => addon.parse(source, Uint32Array.from({ length: 13 }, (_, word) => words[word] ?? (word < 8 ? 0 : 2 ** 32 - 1)), allocate).status;
   for (const depth of [1001, 2 ** 31, 2 ** 32 - 1]) assert.strictEqual(status(depth, 5), "invalid_limit");
   for (let reserved = 0; reserved < 6; reserved++)
     assert.strictEqual(status(5, 5, ...new Array(reserved).fill(0), 1), "invalid_limit");
@@ -122,8 +133,12 @@ test("the addon takes no other arguments", () => {
     assert.throws(() => addon.tokens(...words), { message: "tokens takes a buffer, a number of tokens and a function" });
     assert.throws(() => addon.excerpt(...words), { message: "excerpt takes a buffer, a byte and a function" });
   }
-  for (const words of [[], [source], ["{ a }", allocate]])
+  for (const words of [[], [source], ["{ a }", allocate]]) {
     assert.throws(() => addon.canonical(...words), { message: "canonical takes a buffer and a function" });
+    assert.throws(() => addon.complexities(...words), { message: "complexities takes a buffer and a function" });
+  }
+  assert.deepStrictEqual(addon.complexities(source, allocate).complexities, Uint32Array.of(0, 1, 0, 0, 1, 1).buffer);
+  assert.strictEqual(addon.complexities(Buffer.from("fragment F on T { a }"), allocate).complexities, undefined);
   for (const byte of [6, 2 ** 32, -1, NaN, 1e300]) assert.strictEqual(addon.excerpt(source, byte, allocate).status, "invalid_error");
 });
 

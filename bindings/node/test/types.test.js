@@ -13,7 +13,7 @@ const { declaration } = require("../lib/limits");
 const { parse, tokens, FirthnapkinError } = firthnapkin;
 
 // What a program may find at run time and has no use for.
-const INTERNAL = { Document: ["units", "parents", "between"], Tokens: ["units"] };
+const INTERNAL = { Document: ["units", "parents", "between", "complexityOf"], Tokens: ["units"] };
 
 const [index, ofLimits] = ["index.d.ts", "lib/limits.d.ts"].map((name) => fs.readFileSync(path.join(__dirname, "..", name), "utf8"));
 const text = (index + ofLimits).replace(/\/\*[^]*?\*\//g, "");
@@ -133,12 +133,13 @@ function comparedParts(part) {
 }
 
 const DOCUMENTS = [
-  'query Q($v: [T!]! = [1] @d, $w: Int) { x: a(b: {c: -1.5, d: 99999999999999999999, e: E, f: $v, g: true, h: null, i: "s", j: """t"""}) ...F @e }',
+  'query Q($v: [T!]! = [1] @d, $w: Int) { x: a(b: {c: -1.5, d: 99999999999999999999, e: E, f: $v, g: true, h: null, i: "s", j: """t"""}) ...F @e } fragment F on T { f }',
   "mutation { m @d(b: 1) @e } subscription S @d { ... on T @e { s } ... { u } } fragment F on T @d(e: 2) { f }",
 ];
 const ERRORS = [
   ["{ a ) }"], ["{"], ["{ \u00e9 }"], ["{a(b: 01)}"], ['{a(b: "'], ['{a(b: "\0")}'], ['{a(b: "\\q")}'], ["{a(b: -"], ["\ud800"],
-  ["{a{b}}", { depth: 1 }], ["{a}", { maxTokens: 1 }],
+  ["{a{b}}", { depth: 1 }], ["{a}", { maxTokens: 1 }], ["{ a b }", { maxFields: 1 }], ["{ ...A }", { maxFields: 1 }],
+  ["{ ...A } fragment A on T { ...A }", { maxFields: 1 }],
 ];
 
 test("documents and nodes are what index.d.ts says", () => {
@@ -196,7 +197,7 @@ test("limits.d.ts is of the list of limits, and index.d.ts exports its type", ()
 });
 
 test("the options are those of index.d.ts", () => {
-  for (const [type, call, wanted] of [["Options", parse, ["depth", "maxTokens"]], ["TokenOptions", tokens, ["maxTokens"]]]) {
+  for (const [type, call, wanted] of [["Options", parse, ["depth", "maxAliases", "maxDirectives", "maxFieldDepth", "maxFields", "maxRootFields", "maxTokens"]], ["TokenOptions", tokens, ["maxTokens"]]]) {
     const options = objects.get(type);
     assert.deepStrictEqual(Array.from(options.keys()).sort(), wanted);
     assert.strictEqual(functions.get(call.name).parameters, `source: string, options?: ${type}`);
