@@ -4,6 +4,7 @@ package firthnapkin
 
 /*
 #include "calls.h"
+#include "sizes.h"
 
 static uint32_t message(const char *source, size_t length, const firthnapkin_error *error, char *buffer, size_t capacity,
                         size_t *buffer_length) {
@@ -28,11 +29,14 @@ type ErrorKind uint32
 
 // The kinds of errors.
 const (
-	UnexpectedToken ErrorKind = C.FIRTHNAPKIN_ERROR_UNEXPECTED_TOKEN // no document could have the token there
-	UnexpectedEnd   ErrorKind = C.FIRTHNAPKIN_ERROR_UNEXPECTED_END   // the source ends within a document
-	Lexical         ErrorKind = C.FIRTHNAPKIN_ERROR_LEXICAL          // there is no token here; the ErrorDetail says why
-	TooDeep         ErrorKind = C.FIRTHNAPKIN_ERROR_TOO_DEEP         // the token is nested too deep
-	TooManyTokens   ErrorKind = C.FIRTHNAPKIN_ERROR_TOO_MANY_TOKENS  // the token is one too many
+	UnexpectedToken   ErrorKind = C.FIRTHNAPKIN_ERROR_UNEXPECTED_TOKEN // no document could have the token there
+	UnexpectedEnd     ErrorKind = C.FIRTHNAPKIN_ERROR_UNEXPECTED_END   // the source ends within a document
+	Lexical           ErrorKind = C.FIRTHNAPKIN_ERROR_LEXICAL          // there is no token here; the ErrorDetail says why
+	TooDeep           ErrorKind = C.FIRTHNAPKIN_ERROR_TOO_DEEP         // the token is nested too deep
+	TooManyTokens     ErrorKind = C.FIRTHNAPKIN_ERROR_TOO_MANY_TOKENS  // the token is one too many
+	UnknownFragment   ErrorKind = C.FIRTHNAPKIN_ERROR_UNKNOWN_FRAGMENT // the spread names no fragment of the document
+	FragmentCycle     ErrorKind = C.FIRTHNAPKIN_ERROR_FRAGMENT_CYCLE   // the spread is within the fragment that it names
+	OperationTooLarge ErrorKind = C.OPERATION_TOO_LARGE                // the operation exceeds a limit: the message says which
 )
 
 // ErrorDetail is why there is no token.
@@ -55,7 +59,7 @@ type SyntaxError struct {
 	Kind      ErrorKind
 	Detail    ErrorDetail
 	Character rune // the character of the Detail, otherwise 0
-	// The positions of a token, or of zero width. Their lines and columns are counted from 0.
+	// The positions of a token, a spread or an operation, or of zero width. Their lines and columns are counted from 0.
 	Start, End Position
 
 	source string

@@ -42,17 +42,17 @@ func TestDepths(t *testing.T) {
 	deep := strings.Repeat("{a", 200000)
 	for _, depth := range []int{-1, -1 << 63, MaxDepth + 1, 1<<31 - 1, 1<<32 - 1, 1 << 32, 1<<32 + 5, 1<<63 - 1} {
 		for _, source := range []string{deep, "{a}", "", "\xff"} {
-			if _, err := ParseWithin(source, Limits{Depth: depth, Tokens: AnyTokens}); !errors.Is(err, ErrInvalidLimit) {
+			if _, err := ParseWithin(source, within(depth, AnyTokens)); !errors.Is(err, ErrInvalidLimit) {
 				t.Errorf("the depth %d: %v", depth, err)
 			}
 		}
 	}
-	_, err := ParseWithin("{a}", Limits{Depth: 1001, Tokens: 5})
+	_, err := ParseWithin("{a}", within(1001, 5))
 	same(t, "the words of a depth", err.Error(), "firthnapkin: invalid limit: Depth 1001 is not from 0 to 1000")
-	_, err = ParseWithin("{a}", Limits{Depth: 5, Tokens: -7})
+	_, err = ParseWithin("{a}", within(5, -7))
 	same(t, "the words of a number of tokens", err.Error(), "firthnapkin: invalid limit: Tokens -7 is below 0")
 	for _, depth := range []int{0, 1, 2, 199, 200, MaxDepth} {
-		if d, err := ParseWithin(strings.Repeat("{a", depth)+strings.Repeat("}", depth), Limits{Depth: depth, Tokens: AnyTokens}); depth > 0 &&
+		if d, err := ParseWithin(strings.Repeat("{a", depth)+strings.Repeat("}", depth), within(depth, AnyTokens)); depth > 0 &&
 			(err != nil || len(d.Nodes) != depth+1) {
 			t.Errorf("a text %d deep: %v", depth, err)
 		}
@@ -66,12 +66,12 @@ func TestTokens(t *testing.T) {
 	source := "{ a(b: \"é\") ...F }"
 	starts := []uint32{0, 2, 3, 4, 5, 7, 10, 12, 15, 17}
 	for _, tokens := range []int{len(starts), len(starts) + 1, AnyTokens - 1, AnyTokens, 1 << 40, 1<<63 - 1} {
-		if _, err := ParseWithin(source, Limits{Depth: 5, Tokens: tokens}); err != nil {
+		if _, err := ParseWithin(source, within(5, tokens)); err != nil {
 			t.Errorf("%d tokens: %v", tokens, err)
 		}
 	}
 	for tokens, start := range starts {
-		_, err := ParseWithin(source, Limits{Depth: 5, Tokens: tokens})
+		_, err := ParseWithin(source, within(5, tokens))
 		var found *SyntaxError
 		if !errors.As(err, &found) {
 			t.Fatalf("%d tokens: %v", tokens, err)
@@ -81,13 +81,13 @@ func TestTokens(t *testing.T) {
 	}
 	// No lexical error after the first token too many counts, and no deep text is parsed.
 	for _, source := range []string{strings.Repeat("{a", 1<<20), "{ a ) } \"", "{ a \"\x00"} {
-		_, err := ParseWithin(source, Limits{Depth: 5, Tokens: 2})
+		_, err := ParseWithin(source, within(5, 2))
 		var found *SyntaxError
 		same(t, source[:5], errors.As(err, &found) && found.Kind == TooManyTokens, source != "{ a \"\x00")
 	}
 	many := "{" + strings.Repeat("a ", 1000001)
 	for _, tokens := range []int{65535, 65536, 65537, 999999, 1000000, 1000001, 1000002} {
-		_, err := ParseWithin(many, Limits{Depth: 5, Tokens: tokens})
+		_, err := ParseWithin(many, within(5, tokens))
 		var found *SyntaxError
 		if !errors.As(err, &found) {
 			t.Fatalf("%d tokens: %v", tokens, err)
@@ -99,11 +99,11 @@ func TestTokens(t *testing.T) {
 		same(t, "a limit on many tokens", []any{found.Kind, int(found.Start.Byte)}, wanted)
 	}
 	for _, tokens := range []int{-1, -1 << 63} {
-		if _, err := ParseWithin(source, Limits{Depth: 5, Tokens: tokens}); !errors.Is(err, ErrInvalidLimit) {
+		if _, err := ParseWithin(source, within(5, tokens)); !errors.Is(err, ErrInvalidLimit) {
 			t.Errorf("%d tokens: %v", tokens, err)
 		}
 	}
-	if _, err := ParseWithin("{\xff", Limits{Depth: 5, Tokens: 0}); !errors.Is(err, ErrNotUTF8) {
+	if _, err := ParseWithin("{\xff", within(5, 0)); !errors.Is(err, ErrNotUTF8) {
 		t.Errorf("not UTF-8: %v", err)
 	}
 }
@@ -117,7 +117,7 @@ func TestTooLong(t *testing.T) {
 	defer syscall.Munmap(bytes)
 	source := *(*string)(unsafe.Pointer(&bytes))
 	for _, tokens := range []int{5, AnyTokens} {
-		if _, err := ParseWithin(source, Limits{Depth: 5, Tokens: tokens}); !errors.Is(err, ErrSourceTooLong) {
+		if _, err := ParseWithin(source, within(5, tokens)); !errors.Is(err, ErrSourceTooLong) {
 			t.Errorf("4 GiB: %v", err)
 		}
 	}
@@ -164,34 +164,46 @@ func TestSmallStacks(t *testing.T) {
 
 // Each limit goes to its word, and the words that no limit has are 0.
 func TestWords(t *testing.T) {
+	none := []uint32{AnyNumber, AnyNumber, AnyNumber, AnyNumber, AnyNumber}
 	for _, it := range []struct {
-		limits Limits
-		wanted []uint32
+		limits        Limits
+		wanted, sizes []uint32
 	}{
-		{DefaultLimits, []uint32{200, 1<<32 - 1}}, {Limits{}, []uint32{0, 0}}, {Limits{Depth: 7, Tokens: 9}, []uint32{7, 9}},
-		{Limits{Depth: 1000, Tokens: 1<<32 - 2}, []uint32{1000, 1<<32 - 2}}, {Limits{Tokens: 1 << 32}, []uint32{0, 1<<32 - 1}},
-		{Limits{Tokens: 1<<63 - 1}, []uint32{0, 1<<32 - 1}}, {loosest, []uint32{1000, 1<<32 - 1}},
+		{DefaultLimits, []uint32{200, 1<<32 - 1}, none}, {Limits{}, []uint32{0, 0}, []uint32{0, 0, 0, 0, 0}}, {within(7, 9), []uint32{7, 9}, none},
+		{within(1000, 1<<32-2), []uint32{1000, 1<<32 - 2}, none}, {within(0, 1<<32), []uint32{0, 1<<32 - 1}, none},
+		{within(0, 1<<63-1), []uint32{0, 1<<32 - 1}, none}, {loosest, []uint32{1000, 1<<32 - 1}, none},
+		{Limits{5, 6, 1, 2, 3, 4, AnyNumber}, []uint32{5, 6}, []uint32{1, 2, 3, 4, AnyNumber}},
+		{Limits{5, 6, AnyNumber - 1, 0, 3, 4, 5}, []uint32{5, 6}, []uint32{AnyNumber - 1, 0, 3, 4, 5}},
 	} {
 		words, err := it.limits.words()
-		found := []uint32{uint32(words.depth), uint32(words.tokens)}
+		found := []uint32{uint32(words.call.depth), uint32(words.call.tokens)}
 		same(t, fmt.Sprint("the words of ", it.limits), []any{err, found}, []any{nil, it.wanted})
-		for i, word := range words.reserved {
+		for i, word := range words.call.reserved {
 			same(t, fmt.Sprint("the reserved word ", i), uint32(word), uint32(0))
 		}
+		for i, word := range words.sizes.most {
+			same(t, fmt.Sprint("the size ", i, " of ", it.limits), uint32(word), it.sizes[i])
+		}
 	}
-	// Each field is an int, with the name of its word.
+	// Each field is an int, with the name of its word, or of its number.
 	words, _ := DefaultLimits.words()
-	fields, named := reflect.TypeOf(DefaultLimits), reflect.TypeOf(words)
+	fields, named, sizes := reflect.TypeOf(DefaultLimits), reflect.TypeOf(words.call), reflect.TypeOf(Complexity{})
 	for i := 0; i < fields.NumField(); i++ {
 		found := []any{fields.Field(i).Type.Kind(), strings.ToLower(fields.Field(i).Name)}
-		same(t, "a field", found, []any{reflect.Int, strings.ReplaceAll(named.Field(i).Name, "_", "")})
+		wanted := ""
+		if i < ownCount {
+			wanted = named.Field(i).Name
+		} else if wanted = strings.ToLower(sizes.Field(i - ownCount).Name); wanted == "depth" {
+			wanted = "fielddepth"
+		}
+		same(t, "a field", found, []any{reflect.Int, strings.ReplaceAll(wanted, "_", "")})
 	}
 	// A word that the library refuses is an invalid limit.
-	words.reserved[len(words.reserved)-1] = 1
+	words.call.reserved[len(words.call.reserved)-1] = 1
 	_, err := parse("{a}", words)
 	same(t, "a reserved word", err, ErrInvalidLimit)
 	// The first limit that is out of its range is named.
-	_, err = ParseWithin("{a}", Limits{Depth: -1, Tokens: -1})
+	_, err = ParseWithin("{a}", within(-1, -1))
 	same(t, "the words of both", err.Error(), "firthnapkin: invalid limit: Depth -1 is not from 0 to 1000")
 	_, err = TokensWithin("{a}", -1)
 	same(t, "the words of a number of tokens", err.Error(), "firthnapkin: invalid limit: maxTokens -1 is below 0")

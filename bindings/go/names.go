@@ -46,6 +46,9 @@ func (k TokenKind) String() string {
 
 // String returns the kind's name, as "unexpected_token".
 func (k ErrorKind) String() string {
+	if k == OperationTooLarge {
+		return "operation_too_large"
+	}
 	return nameOf(errorKindNames, uint32(k), "ErrorKind")
 }
 

@@ -24,16 +24,31 @@ package firthnapkin
 #cgo CFLAGS: -D_GNU_SOURCE -I${SRCDIR}/native -I${SRCDIR}/../../include -I${SRCDIR}/..
 #cgo LDFLAGS: -L${SRCDIR}/native -L${SRCDIR}/../../out -l:libfirthnapkin.a -pthread
 #include "calls.h"
+#include "sizes.h"
 
 typedef struct {
-	size_t nodes_length, texts_length;
+	firthnapkin_limits call;
+	size_limits sizes;
+} package_limits;
+
+typedef struct {
+	size_t nodes_length, texts_length, complexities_length;
+	excess beyond;
 	firthnapkin_error error;
 } outcome;
 
-static uint32_t parse(const char *source, size_t length, firthnapkin_limits limits, void *nodes, size_t nodes_capacity,
-                      char *texts, size_t texts_capacity, outcome *t) {
-	return parse_on_stack((const uint8_t *)source, length, &limits, nodes, nodes_capacity, &t->nodes_length, (uint8_t *)texts,
-	                      texts_capacity, &t->texts_length, &t->error);
+// Without capacity for complexities the source is only parsed.
+static uint32_t parse(const char *source, size_t length, package_limits limits, void *nodes, size_t nodes_capacity,
+                      char *texts, size_t texts_capacity, void *complexities, size_t complexities_capacity, outcome *t) {
+	if (complexities_capacity == 0)
+		return parse_on_stack((const uint8_t *)source, length, &limits.call, nodes, nodes_capacity, &t->nodes_length,
+		                      (uint8_t *)texts, texts_capacity, &t->texts_length, &t->error);
+	uint32_t status = parse_complexities_on_stack((const uint8_t *)source, length, &limits.call, nodes, nodes_capacity,
+	                                              &t->nodes_length, (uint8_t *)texts, texts_capacity, &t->texts_length,
+	                                              complexities, complexities_capacity, &t->complexities_length, &t->error);
+	if (status != FIRTHNAPKIN_OK) return status;
+	t->beyond = first_beyond(complexities, t->complexities_length, &limits.sizes);
+	return t->beyond.operation < t->complexities_length ? OPERATION_TOO_LARGE : status;
 }
 */
 import "C"
@@ -52,17 +67,27 @@ const MaxDepth = C.FIRTHNAPKIN_MAX_DEPTH
 // AnyTokens is a number of tokens that no source exceeds.
 const AnyTokens = 1<<32 - 1
 
+// AnyNumber is no limit on a number of an operation. It is the largest that is counted to, and stands for all above it, too.
+const AnyNumber = 1<<32 - 1
+
 // Version is the library's version.
 const Version = C.FIRTHNAPKIN_VERSION_STRING
 
-// Limits are what a source may have. The zero value allows no bracket and no token, so begin with DefaultLimits.
+// Limits are what a source may have. The zero value allows no bracket, no token and no field, so begin with DefaultLimits. Those
+// on each operation are from 0 to AnyNumber, which is none, and count with every fragment expanded, as its Complexity does.
 type Limits struct {
-	Depth  int // how deep brackets may be nested: from 0 to MaxDepth
-	Tokens int // how many tokens there may be, the end of the source not counted; AnyTokens and more are no limit
+	Depth      int // how deep brackets may be nested: from 0 to MaxDepth
+	Tokens     int // how many tokens there may be, the end of the source not counted; AnyTokens and more are no limit
+	Fields     int // an operation's fields
+	Aliases    int // an operation's fields with an alias
+	Directives int // an operation's directives
+	RootFields int // an operation's fields that are in no other field
+	FieldDepth int // an operation's fields that are nested in one another
 }
 
 // DefaultLimits are those of Parse: brackets nested 200 deep, and no other limit.
-var DefaultLimits = Limits{Depth: 200, Tokens: AnyTokens}
+var DefaultLimits = Limits{Depth: 200, Tokens: AnyTokens, Fields: AnyNumber, Aliases: AnyNumber, Directives: AnyNumber,
+	RootFields: AnyNumber, FieldDepth: AnyNumber}
 
 // What the calls return besides a *SyntaxError.
 var (
@@ -82,21 +107,48 @@ func Parse(source string) (*Document, error) {
 	return ParseWithin(source, DefaultLimits)
 }
 
-// numbers are the fields of Limits: ints, in the order of the library's words. In later ones 0 is no limit.
+// numbers are the fields of Limits: ints, in the order of the library's words, and then those on operations. In later words
+// of the library 0 is no limit.
 type numbers [unsafe.Sizeof(Limits{}) / unsafe.Sizeof(0)]int
 
+// How many words the library's limits have, and how many of those have a field.
+const (
+	wordCount = C.sizeof_firthnapkin_limits / C.sizeof_uint32_t
+	ownCount  = len(numbers{}) - C.SIZES
+)
+
 // words returns limits as the library takes them: a word for each field, and 0 in the words that have none.
-func (limits Limits) words() (words C.firthnapkin_limits, err error) {
+func (limits Limits) words() (words C.package_limits, err error) {
 	if limits.Depth < 0 || limits.Depth > MaxDepth {
 		return words, fmt.Errorf("%w: Depth %d is not from 0 to %d", ErrInvalidLimit, limits.Depth, MaxDepth)
 	}
+	all := (*[wordCount + C.SIZES]C.uint32_t)(unsafe.Pointer(&words))
 	for i, value := range *(*numbers)(unsafe.Pointer(&limits)) {
-		if value < 0 {
-			return words, belowZero(reflect.TypeOf(limits).Field(i).Name, value)
+		place, isSize := i, i >= ownCount
+		if isSize {
+			place += wordCount - ownCount
 		}
-		(*[C.sizeof_firthnapkin_limits / C.sizeof_uint32_t]C.uint32_t)(unsafe.Pointer(&words))[i] = word(value)
+		if value < 0 {
+			return words, belowZero(nameOfLimit(i), value)
+		}
+		if isSize && value > AnyNumber {
+			return words, fmt.Errorf("%w: %s %d is above AnyNumber", ErrInvalidLimit, nameOfLimit(i), value)
+		}
+		all[place] = word(value)
 	}
 	return words, nil
+}
+
+// nameOfLimit returns the name of a field of Limits.
+func nameOfLimit(i int) string {
+	return reflect.TypeOf(Limits{}).Field(i).Name
+}
+
+// within returns the default limits with another depth and another number of tokens.
+func within(depth, tokens int) Limits {
+	limits := DefaultLimits
+	limits.Depth, limits.Tokens = depth, tokens
+	return limits
 }
 
 // word returns a number as the library takes it. No source has more of anything than a word holds.
@@ -113,8 +165,9 @@ func belowZero(name string, value int) error {
 }
 
 // ParseWithin is Parse with other limits. The source is read once. One with too many tokens is refused at the first one too
-// many, before anything is built. An error that wraps ErrInvalidLimit is returned, and the source isn't read, if the depth
-// is not from 0 to MaxDepth, or the number of tokens is below 0.
+// many, before anything is built. The first operation beyond a limit is refused where it begins; with such a limit a spread that
+// can't be expanded is refused, too, if an operation reaches it. An error that wraps ErrInvalidLimit is returned, and the source
+// isn't read, if the depth is not from 0 to MaxDepth, the number of tokens is below 0, or another limit is not from 0 to AnyNumber.
 func ParseWithin(source string, limits Limits) (*Document, error) {
 	words, err := limits.words()
 	if err != nil {
@@ -127,20 +180,30 @@ func ParseWithin(source string, limits Limits) (*Document, error) {
 const mostAtFirst = 1 << 20
 
 // Few sources have more nodes than one for six bytes; for others, and for the largest, the second call has the capacity that
-// the first returns.
-func parse(source string, limits C.firthnapkin_limits) (*Document, error) {
-	first := atFirst(source)
+// the first returns. Without a limit on operations there is no capacity for their numbers.
+func parse(source string, limits C.package_limits) (*Document, error) {
+	first, operations := atFirst(source), 0
+	if isAnyLimited(limits.sizes) {
+		operations = first/8 + 4
+	}
 	nodesCapacity, textsCapacity := first+16, first+64
 	for {
 		nodes, texts, result := make([]Node, nodesCapacity), make([]byte, textsCapacity), new(C.outcome)
-		status := C.parse(bytesOf(source), C.size_t(len(source)), limits, unsafe.Pointer(&nodes[0]),
-			C.size_t(nodesCapacity), (*C.char)(unsafe.Pointer(&texts[0])), C.size_t(textsCapacity), result)
+		complexities := make([]operationComplexity, operations)
+		status := C.parse(bytesOf(source), C.size_t(len(source)), limits, unsafe.Pointer(&nodes[0]), C.size_t(nodesCapacity),
+			(*C.char)(unsafe.Pointer(&texts[0])), C.size_t(textsCapacity), startOf(complexities), C.size_t(operations), result)
 		runtime.KeepAlive(source)
 		switch status {
 		case C.FIRTHNAPKIN_OK:
-			return &Document{source, nodes[:result.nodes_length:result.nodes_length], string(texts[:result.texts_length])}, nil
+			return documentOf(source, nodes[:result.nodes_length:result.nodes_length], string(texts[:result.texts_length]),
+				complexities[:result.complexities_length]), nil
 		case C.FIRTHNAPKIN_BUFFER_TOO_SMALL:
 			nodesCapacity, textsCapacity = int(result.nodes_length)+1, int(result.texts_length)+1
+			if operations > 0 {
+				operations = int(result.complexities_length) + 1
+			}
+		case C.OPERATION_TOO_LARGE:
+			return nil, tooLarge(source, nodes, complexities, &limits.sizes, result.beyond)
 		default:
 			return nil, errorOf(status, source, &result.error)
 		}
@@ -158,7 +221,8 @@ func atFirst(source string) int {
 // errorOf returns the error of a status, with what the call found.
 func errorOf(status C.uint32_t, source string, found *C.firthnapkin_error) error {
 	switch status {
-	case C.FIRTHNAPKIN_SYNTAX_ERROR, C.FIRTHNAPKIN_TOO_DEEP, C.FIRTHNAPKIN_TOO_MANY_TOKENS:
+	case C.FIRTHNAPKIN_SYNTAX_ERROR, C.FIRTHNAPKIN_TOO_DEEP, C.FIRTHNAPKIN_TOO_MANY_TOKENS, C.FIRTHNAPKIN_UNKNOWN_FRAGMENT,
+		C.FIRTHNAPKIN_FRAGMENT_CYCLE:
 		return syntaxErrorOf(source, found)
 	case C.FIRTHNAPKIN_NOT_UTF8:
 		return ErrNotUTF8
@@ -180,7 +244,7 @@ func bytesOf(source string) *C.char {
 // The nodes of a slice are laid out as the library writes them, and Limits has a field for each of its limits; each of these lines is
 // a compile error if that is wrong.
 var (
-	_ = [1]struct{}{}[C.sizeof_uint32_t*uintptr(len(numbers{}))-unsafe.Offsetof(C.firthnapkin_limits{}.reserved)]
+	_ = [1]struct{}{}[C.sizeof_uint32_t*uintptr(ownCount)-unsafe.Offsetof(C.firthnapkin_limits{}.reserved)]
 	_ = [1]struct{}{}[unsafe.Sizeof(Node{})-C.sizeof_firthnapkin_node]
 	_ = [1]struct{}{}[unsafe.Offsetof(Node{}.Descendants)-unsafe.Offsetof(C.firthnapkin_node{}.descendants)]
 	_ = [1]struct{}{}[unsafe.Offsetof(Node{}.Start)-unsafe.Offsetof(C.firthnapkin_node{}.start)]

@@ -24,7 +24,7 @@ func parsed(t *testing.T, source string) *Document {
 // refused returns why a source has no document, and fails if it has one.
 func refused(t *testing.T, source string, depth int) *SyntaxError {
 	t.Helper()
-	_, err := ParseWithin(source, Limits{Depth: depth, Tokens: AnyTokens})
+	_, err := ParseWithin(source, within(depth, AnyTokens))
 	var found *SyntaxError
 	if !errors.As(err, &found) {
 		t.Fatalf("%.40q: %v", source, err)
@@ -163,9 +163,9 @@ func TestDocument(t *testing.T) {
 	same(t, "its end", d.Nodes[last].End, Position{79, 2, 27, 87})
 	same(t, "a kind's word", []string{KindQuery.String(), KindObjectField.String(), KindBoolean.String(), Kind(26).String()},
 		[]string{"query", "object_field", "boolean", "Kind(26)"})
-	same(t, "the words of errors", []string{UnexpectedToken.String(), TooManyTokens.String(), ErrorKind(7).String(),
+	same(t, "the words of errors", []string{UnexpectedToken.String(), TooManyTokens.String(), ErrorKind(8).String(),
 		UnknownEscape.String(), UnexpectedEndInToken.String(), ErrorDetail(9).String()},
-		[]string{"unexpected_token", "too_many_tokens", "ErrorKind(7)", "unknown_escape", "unexpected_end_in_token", "ErrorDetail(9)"})
+		[]string{"unexpected_token", "too_many_tokens", "ErrorKind(8)", "unknown_escape", "unexpected_end_in_token", "ErrorDetail(9)"})
 	same(t, "the version", Version != "", true)
 }
 
@@ -236,7 +236,7 @@ func TestSchemas(t *testing.T) {
 	} {
 		same(t, source, refused(t, source, 9).Message, message)
 	}
-	_, err := ParseWithin("type A", Limits{Depth: 5, Tokens: 0})
+	_, err := ParseWithin("type A", within(5, 0))
 	same(t, "a token too many", err.(*SyntaxError).Message, "Too many tokens")
 	parsed(t, "{ type { schema(input: enum) } } query type { extend } fragment enum on union { scalar }")
 }

@@ -163,7 +163,7 @@ func TestExcerpts(t *testing.T) {
 	} {
 		same(t, source, refused(t, source, 9).Excerpt(), wanted)
 	}
-	_, err := ParseWithin("{ a }", Limits{Depth: 5, Tokens: 1})
+	_, err := ParseWithin("{ a }", within(5, 1))
 	same(t, "the excerpt of a token too many", err.(*SyntaxError).Excerpt(), "1 | { a }\n  |   ^")
 	// Of a long line 80 characters are shown.
 	long := strings.Repeat("a ", 5000)

@@ -13,7 +13,7 @@ var schemaKeywords = map[string]bool{
 	"input": true,
 }
 
-var loosest = Limits{Depth: MaxDepth, Tokens: AnyTokens}
+var loosest = within(MaxDepth, AnyTokens)
 
 // beginsSchema says whether an unexpected token begins a definition of a schema, or its description: it does if what is before it
 // is a document, or has no tokens.

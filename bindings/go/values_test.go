@@ -81,7 +81,7 @@ func TestHalvesOfPairs(t *testing.T) {
 func TestDeepValues(t *testing.T) {
 	for begin, end := range map[string]string{"[": "]", "{k: ": "}"} {
 		source := "{ a(b: " + strings.Repeat(begin, MaxDepth-2) + "1" + strings.Repeat(end, MaxDepth-2) + ") }"
-		d, err := ParseWithin(source, Limits{Depth: MaxDepth, Tokens: AnyTokens})
+		d, err := ParseWithin(source, within(MaxDepth, AnyTokens))
 		if err != nil {
 			t.Fatal(err)
 		}
