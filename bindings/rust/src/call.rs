@@ -1,10 +1,10 @@
 //! The calls of the library. All unsafe code is here, but for the look at the thread's stack.
 
+use crate::complexity::{self, Lengths, RawComplexity, Written};
 use crate::document::{Document, Position, RawNode};
 use crate::error::{Error, ErrorDetail, ErrorKind, SyntaxError};
 use crate::lexer::{RawToken, Tokens};
 use crate::{stack, Limits, MAX_DEPTH};
-use std::mem::size_of;
 
 const OK: u32 = 0;
 const SYNTAX_ERROR: u32 = 1;
@@ -13,23 +13,14 @@ const TOO_MANY_TOKENS: u32 = 5;
 const BUFFER_TOO_SMALL: u32 = 6;
 const SOURCE_TOO_LONG: u32 = 7;
 const INVALID_LIMIT: u32 = 8;
+const UNKNOWN_FRAGMENT: u32 = 10;
+const FRAGMENT_CYCLE: u32 = 11;
 
-/// The number of words of limits, and of those that have no limit.
-const WORDS: usize = 8;
-const RESERVED: usize = WORDS - size_of::<Limits>() / size_of::<u32>();
+/// The number of words of limits.
+pub(crate) const WORDS: usize = 8;
 
-/// Limits as the library takes them. In the words that have no limit 0 is none.
-#[repr(C)]
-struct RawLimits {
-    given: Limits,
-    reserved: [u32; RESERVED],
-}
-
-impl From<Limits> for RawLimits {
-    fn from(given: Limits) -> Self {
-        RawLimits { given, reserved: [0; RESERVED] }
-    }
-}
+/// Limits as the library takes them.
+pub(crate) type RawLimits = [u32; WORDS];
 
 #[repr(C)]
 #[derive(Clone, Copy, Default)]
@@ -57,6 +48,22 @@ extern "C" {
         texts: *mut u8,
         texts_capacity: usize,
         texts_length: *mut usize,
+        error: *mut RawError,
+    ) -> u32;
+
+    fn firthnapkin_parse_complexities(
+        source: *const u8,
+        length: usize,
+        limits: *const RawLimits,
+        nodes: *mut RawNode,
+        nodes_capacity: usize,
+        nodes_length: *mut usize,
+        texts: *mut u8,
+        texts_capacity: usize,
+        texts_length: *mut usize,
+        complexities: *mut RawComplexity,
+        complexities_capacity: usize,
+        complexities_length: *mut usize,
         error: *mut RawError,
     ) -> u32;
 
@@ -104,12 +111,21 @@ pub fn parse(source: &str) -> Result<Document<'_>, Error> {
 }
 
 /// The document that a source is, within these limits. The source is read once. One with too many tokens is refused at the
-/// first one too many, before anything is built; one with a depth above [`MAX_DEPTH`] is not read.
+/// first one too many, before anything is built; one with a depth above [`MAX_DEPTH`] is not read. The first operation beyond a
+/// limit on operations is refused where it begins; with such a limit a spread that can't be expanded is refused, too, if an
+/// operation reaches it.
 pub fn parse_within(source: &str, limits: Limits) -> Result<Document<'_>, Error> {
     if limits.depth > MAX_DEPTH {
         return Err(Error::InvalidLimit);
     }
-    stack::with(limits.depth, || parse_here(source, limits)).unwrap_or(Err(Error::OutOfMemory))
+    let is_measured = limits.sizes().iter().any(|&most| most != u32::MAX);
+    let call = || if is_measured { complexity::measure(source, &limits) } else { parse_here(source, &limits) };
+    stack::with(limits.depth, call).unwrap_or(Err(Error::OutOfMemory))
+}
+
+/// How large the operations of a document are whose brackets are nested at most this deep.
+pub(crate) fn complexities(source: &str, depth: u32) -> Result<Vec<RawComplexity>, Error> {
+    stack::with(depth, || complexity::measure_alone(source, depth)).unwrap_or(Err(Error::OutOfMemory))
 }
 
 /// The tokens of a source, the last of which is its end. White space, line ends, commas, comments and byte order marks are no
@@ -147,13 +163,13 @@ const MOST_AT_FIRST: usize = 1 << 22;
 
 /// How many nodes or tokens are allocated for the first call. Few sources have more than one for four bytes; for others, and for
 /// the largest, the second call has the capacity that the first returns. Memory that is not written to costs nothing.
-fn at_first(source: &str) -> usize {
+pub(crate) fn at_first(source: &str) -> usize {
     (source.len() / 4).min(MOST_AT_FIRST)
 }
 
 /// A parse on this thread's stack.
-fn parse_here(source: &str, limits: Limits) -> Result<Document<'_>, Error> {
-    let limits = RawLimits::from(limits);
+fn parse_here<'a>(source: &'a str, limits: &Limits) -> Result<Document<'a>, Error> {
+    let raw = limits.words();
     let (mut nodes_length, mut texts_length) = (at_first(source) + 16, at_first(source) + 64);
     loop {
         let mut nodes: Vec<RawNode> = with_capacity(nodes_length)?;
@@ -164,7 +180,7 @@ fn parse_here(source: &str, limits: Limits) -> Result<Document<'_>, Error> {
             firthnapkin_parse(
                 source.as_ptr(),
                 source.len(),
-                &limits,
+                &raw,
                 nodes.as_mut_ptr(),
                 nodes.capacity(),
                 &mut nodes_length,
@@ -180,10 +196,44 @@ fn parse_here(source: &str, limits: Limits) -> Result<Document<'_>, Error> {
                 nodes.set_len(nodes_length);
                 texts.set_len(texts_length);
             }
-            return Ok(Document::new(source, nodes, text_of(texts)));
+            return Ok(Document::new(source, nodes, text_of(texts), limits.depth));
         }
         refused(status, source, &error)?;
     }
+}
+
+/// Parses into these arrays on this thread's stack, as much as fits. Returns whether all did, and how many there are.
+pub(crate) fn measure_into(source: &str, limits: &RawLimits, into: &mut Written) -> Result<(bool, Lengths), Error> {
+    let mut found = Lengths { nodes: 0, texts: 0, complexities: 0 };
+    let mut error = RawError::default();
+    // SAFETY: as above.
+    let status = unsafe {
+        firthnapkin_parse_complexities(
+            source.as_ptr(),
+            source.len(),
+            limits,
+            into.nodes.as_mut_ptr(),
+            into.nodes.capacity(),
+            &mut found.nodes,
+            into.texts.as_mut_ptr(),
+            into.texts.capacity(),
+            &mut found.texts,
+            into.complexities.as_mut_ptr(),
+            into.complexities.capacity(),
+            &mut found.complexities,
+            &mut error,
+        )
+    };
+    if status != OK {
+        refused(status, source, &error)?;
+    }
+    // SAFETY: the call wrote that many.
+    unsafe {
+        into.nodes.set_len(found.nodes.min(into.nodes.capacity()));
+        into.texts.set_len(found.texts.min(into.texts.capacity()));
+        into.complexities.set_len(found.complexities.min(into.complexities.capacity()));
+    }
+    Ok((status == OK, found))
 }
 
 /// A call of `tokens` on this thread's stack.
@@ -253,12 +303,12 @@ fn words(call: Words, source: &str, error: &RawError) -> Result<String, Error> {
 }
 
 /// What the library writes is UTF-8.
-fn text_of(bytes: Vec<u8>) -> String {
+pub(crate) fn text_of(bytes: Vec<u8>) -> String {
     String::from_utf8(bytes).expect("the library writes UTF-8")
 }
 
 /// A vector with this capacity, if there is memory.
-fn with_capacity<T>(count: usize) -> Result<Vec<T>, Error> {
+pub(crate) fn with_capacity<T>(count: usize) -> Result<Vec<T>, Error> {
     let mut items = Vec::new();
     items.try_reserve_exact(count).map_err(|_| Error::OutOfMemory)?;
     Ok(items)
@@ -268,7 +318,9 @@ fn with_capacity<T>(count: usize) -> Result<Vec<T>, Error> {
 fn refused(status: u32, source: &str, error: &RawError) -> Result<(), Error> {
     match status {
         BUFFER_TOO_SMALL => Ok(()),
-        SYNTAX_ERROR | TOO_DEEP | TOO_MANY_TOKENS => Err(error_of(source, error)?.into()),
+        SYNTAX_ERROR | TOO_DEEP | TOO_MANY_TOKENS | UNKNOWN_FRAGMENT | FRAGMENT_CYCLE => {
+            Err(error_of(source, error)?.into())
+        }
         _ => Err(failure(status)),
     }
 }
@@ -326,9 +378,13 @@ mod tests {
     /// Each limit goes to its word, and the words that no limit has are 0.
     #[test]
     fn words() {
-        let words = |limits: Limits| -> [u32; WORDS] { unsafe { std::mem::transmute(RawLimits::from(limits)) } };
-        assert_eq!(words(Limits::default()), [200, u32::MAX, 0, 0, 0, 0, 0, 0]);
-        assert_eq!(words(Limits { depth: 7, tokens: 9 }), [7, 9, 0, 0, 0, 0, 0, 0]);
-        assert_eq!(words(Limits { depth: 0, tokens: u32::MAX - 1 }), [0, u32::MAX - 1, 0, 0, 0, 0, 0, 0]);
+        let words = |limits: Limits| (limits.words(), limits.sizes());
+        let none = [u32::MAX; 5];
+        assert_eq!(words(Limits::default()), ([200, u32::MAX, 0, 0, 0, 0, 0, 0], none));
+        let limits = |depth, tokens| Limits { depth, tokens, ..Limits::default() };
+        assert_eq!(words(limits(7, 9)), ([7, 9, 0, 0, 0, 0, 0, 0], none));
+        assert_eq!(words(limits(0, u32::MAX - 1)), ([0, u32::MAX - 1, 0, 0, 0, 0, 0, 0], none));
+        let sizes = Limits { fields: 1, aliases: 2, directives: 3, root_fields: 4, field_depth: 5, ..limits(7, 9) };
+        assert_eq!(words(sizes), ([7, 9, 0, 0, 0, 0, 0, 0], [1, 2, 3, 4, 5]));
     }
 }

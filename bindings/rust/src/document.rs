@@ -1,7 +1,10 @@
 //! A document's nodes.
 
 use crate::call;
+use crate::complexity::{self, Complexity, RawComplexity};
+use crate::error::Error;
 use std::fmt;
+use std::sync::OnceLock;
 
 /// The kind of a node.
 #[derive(Clone, Copy, Debug, PartialEq, Eq, Hash)]
@@ -103,11 +106,29 @@ pub struct Document<'a> {
     source: &'a str,
     nodes: Vec<RawNode>,
     texts: String,
+    /// How deep brackets may be nested.
+    depth: u32,
+    /// Found when one is first asked for.
+    complexities: OnceLock<Vec<RawComplexity>>,
 }
 
 impl<'a> Document<'a> {
-    pub(crate) fn new(source: &'a str, nodes: Vec<RawNode>, texts: String) -> Self {
-        Document { source, nodes, texts }
+    pub(crate) fn new(source: &'a str, nodes: Vec<RawNode>, texts: String, depth: u32) -> Self {
+        Document { source, nodes, texts, depth, complexities: OnceLock::new() }
+    }
+
+    /// The document with how large its operations are.
+    pub(crate) fn measured(self, complexities: Vec<RawComplexity>) -> Self {
+        Document { complexities: complexities.into(), ..self }
+    }
+
+    /// The complexity of the operation with the node of this index.
+    pub(crate) fn complexity_of(&self, index: usize) -> Result<Complexity, Error> {
+        if let Some(found) = self.complexities.get() {
+            return Ok(complexity::of_operation(found, index));
+        }
+        let found = call::complexities(self.source, self.depth)?;
+        Ok(complexity::of_operation(self.complexities.get_or_init(|| found), index))
     }
 
     /// The source that was parsed.
@@ -191,6 +212,10 @@ pub struct Node<'d, 'a> {
 impl<'d, 'a> Node<'d, 'a> {
     fn raw(&self) -> &'d RawNode {
         &self.document.nodes[self.index]
+    }
+
+    pub(crate) fn document(&self) -> &'d Document<'a> {
+        self.document
     }
 
     /// The index among the document's nodes.

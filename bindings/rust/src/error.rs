@@ -27,7 +27,7 @@ pub struct SyntaxError {
     pub kind: ErrorKind,
     /// What is wrong, if the kind is [`ErrorKind::Lexical`].
     pub detail: Option<ErrorDetail>,
-    /// The positions of a token, or of zero width. Lines and columns are counted from 0.
+    /// The positions of a token, a spread or an operation, or of zero width. Lines and columns are counted from 0.
     pub start: Position,
     pub end: Position,
 }
@@ -74,6 +74,12 @@ pub enum ErrorKind {
     TooDeep,
     /// The token is one too many.
     TooManyTokens,
+    /// The spread names no fragment of the document.
+    UnknownFragment,
+    /// The spread is within the fragment that it names, itself or through others.
+    FragmentCycle,
+    /// The operation exceeds a limit, with every fragment expanded: the message has the number and the limit.
+    OperationTooLarge,
 }
 
 /// Why there is no token, with the character if there is one.
@@ -96,6 +102,8 @@ impl ErrorKind {
             2 => ErrorKind::Lexical,
             3 => ErrorKind::TooDeep,
             4 => ErrorKind::TooManyTokens,
+            6 => ErrorKind::UnknownFragment,
+            7 => ErrorKind::FragmentCycle,
             _ => unreachable!("the library reports no other kind"),
         }
     }

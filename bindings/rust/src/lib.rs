@@ -9,6 +9,7 @@
 //! ```
 
 mod call;
+mod complexity;
 mod document;
 mod error;
 mod lexer;
@@ -17,6 +18,7 @@ mod stack;
 mod value;
 
 pub use call::{canonical, parse, parse_within, tokens, tokens_within};
+pub use complexity::Complexity;
 pub use document::{Children, Document, Kind, Node, NodeValue, Position};
 pub use error::{Error, ErrorDetail, ErrorKind, SyntaxError};
 pub use lexer::{Token, TokenKind, Tokens};
@@ -32,32 +34,64 @@ pub const DEFAULT_DEPTH: u32 = 200;
 /// The largest depth that [`parse_within`] takes.
 pub const MAX_DEPTH: u32 = 1000;
 
-/// Declares [`Limits`] and its default of what the list below says of each limit.
+use call::WORDS;
+use complexity::NUMBERS;
+
+/// Declares [`Limits`] and its default of what the lists below say of each limit: those of the library, and those on operations.
 macro_rules! limits {
-    ($($name:ident: $type:ty = $default:expr, $about:literal;)*) => {
-        /// What a source may have. The library reads the fields as they are here, in their order.
+    ({$($name:ident: $type:ty = $default:expr, $about:literal;)*} {$($size:ident: $what:literal, $counted:literal;)*}) => {
+        /// What a source may have.
         ///
         /// ```
         /// use firthnapkin::{parse_within, Limits};
         /// assert!(parse_within("{ a { b } }", Limits { tokens: 5, ..Limits::default() }).is_err());
+        /// assert!(parse_within("{ a { b } }", Limits { fields: 1, ..Limits::default() }).is_err());
         /// ```
-        #[repr(C)]
+        ///
+        /// Those on each operation are on the numbers of its [`Complexity`], which count with every fragment expanded.
+        /// [`u32::MAX`] is no limit there.
         #[derive(Clone, Copy, Debug, PartialEq, Eq)]
         pub struct Limits {
             $(#[doc = $about] pub $name: $type,)*
+            $(#[doc = $what] pub $size: u32,)*
         }
 
         /// Brackets nested [`DEFAULT_DEPTH`] deep, and no other limit.
         impl Default for Limits {
             fn default() -> Self {
-                Limits { $($name: $default,)* }
+                Limits { $($name: $default,)* $($size: u32::MAX,)* }
+            }
+        }
+
+        impl Limits {
+            /// What the limits on operations are on.
+            pub(crate) const COUNTED: [&'static str; NUMBERS] = [$($counted,)*];
+
+            /// Limits as the library takes them. In the words that have no limit 0 is none.
+            pub(crate) fn words(&self) -> [u32; WORDS] {
+                let own = [$(self.$name,)*];
+                let mut words = [0; WORDS];
+                words[..own.len()].copy_from_slice(&own);
+                words
+            }
+
+            /// The limits on operations, in the order of their numbers.
+            pub(crate) fn sizes(&self) -> [u32; NUMBERS] {
+                [$(self.$size,)*]
             }
         }
     };
 }
 
-// A limit is a line, in the order of the library's words. In later ones 0 is no limit.
-limits! {
+// A limit is a line, in the order of the library's words. In later ones 0 is no limit. One on operations is a line of the second list,
+// in the order of their numbers.
+limits! {{
     depth: u32 = DEFAULT_DEPTH, "How deep brackets may be nested: from 0 to [`MAX_DEPTH`].";
     tokens: u32 = u32::MAX, "How many tokens there may be, the end of the source not counted; [`u32::MAX`] is no limit.";
-}
+} {
+    fields: "How many fields an operation may have.", "fields";
+    aliases: "How many fields with an alias it may have.", "aliases";
+    directives: "How many directives it may have.", "directives";
+    root_fields: "How many of its fields may be in no other field.", "root fields";
+    field_depth: "How many of its fields may be nested in one another.", "levels of fields";
+}}

@@ -1,6 +1,8 @@
 //! The parts of a document by their names. Each is made when it is asked for, over a node of the document, and copies nothing.
 
+use crate::complexity::Complexity;
 use crate::document::{Document, Kind, Node};
+use crate::error::Error;
 use crate::value::Value;
 
 /// A part over a node, with what all parts have.
@@ -180,6 +182,12 @@ impl<'a> Document<'a> {
 }
 
 impl<'d, 'a> Operation<'d, 'a> {
+    /// How large the operation is. Those of all operations are found when one is first asked for, and kept. An error if an operation
+    /// of the document reaches a spread that names no fragment, or that is within the fragment that it names, or memory ran out.
+    pub fn complexity(&self) -> Result<Complexity, Error> {
+        self.0.document().complexity_of(self.0.index())
+    }
+
     pub fn kind(&self) -> OperationKind {
         match self.0.kind() {
             Kind::Mutation => OperationKind::Mutation,

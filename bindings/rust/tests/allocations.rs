@@ -1,6 +1,7 @@
-//! How much a call allocates: an array for the nodes and one for the texts, as often as the library is called.
+//! How much a call allocates: an array for the nodes and one for the texts, as often as the library is called. One for how large
+//! operations are only if these have a limit, or are asked for.
 
-use firthnapkin::parse;
+use firthnapkin::{parse, parse_within, Limits};
 use std::alloc::{GlobalAlloc, Layout, System};
 use std::cell::Cell;
 
@@ -47,4 +48,24 @@ fn two_calls_for_more_nodes_or_longer_texts() {
     // It has no texts, so the second call needs one array.
     assert_eq!(allocations(&format!("{{{}}}", "a ".repeat(1000))), 3);
     assert_eq!(allocations(&format!("{{a(b:\"{}\")}}", "c".repeat(1000))), 4);
+}
+
+#[test]
+fn one_array_for_the_numbers_of_operations() {
+    let source = "query A { a } query B { b ...F } fragment F on T { c }";
+    let (before, limits) = (COUNT.get(), Limits { aliases: 5, ..Limits::default() });
+    let document = parse_within(source, limits).unwrap();
+    let measured = COUNT.get();
+    let without_limits = allocations(source);
+    let found = |document: &firthnapkin::Document| {
+        let before = COUNT.get();
+        assert_eq!(document.operation(Some("B")).unwrap().complexity().unwrap().fields, 2);
+        COUNT.get() - before
+    };
+    assert_eq!(found(&document), 0);
+    let later = parse(source).unwrap();
+    let first = found(&later);
+    assert_eq!(found(&later), 0);
+    // The library's own requests are the same for both, and not counted here.
+    assert_eq!((without_limits, measured - before, first), (2, 3, 1));
 }

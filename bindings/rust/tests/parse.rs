@@ -278,7 +278,7 @@ fn schemas() {
     ] {
         assert_eq!(error_of(source, 9).message, message);
     }
-    match firthnapkin::parse_within("type A", Limits { depth: 5, tokens: 0 }) {
+    match firthnapkin::parse_within("type A", Limits { depth: 5, tokens: 0, ..Limits::default() }) {
         Err(Error::Syntax(error)) => assert_eq!(error.message, "Too many tokens"),
         other => panic!("{other:?}"),
     }
@@ -331,7 +331,9 @@ fn depths() {
 
 #[test]
 fn tokens() {
-    let within = |source: &'static str, tokens| firthnapkin::parse_within(source, Limits { depth: 5, tokens });
+    let within = |source: &'static str, tokens| {
+        firthnapkin::parse_within(source, Limits { depth: 5, tokens, ..Limits::default() })
+    };
     let source = "{ a(b: \"é\") ...F }";
     let starts = [0, 2, 3, 4, 5, 7, 10, 12, 15, 17];
     for tokens in [10, 11, u32::MAX - 1, u32::MAX] {
@@ -349,7 +351,7 @@ fn tokens() {
     let many = format!("{{{}", "a ".repeat(1_000_001));
     for tokens in [65_535, 65_536, 65_537, 999_999, 1_000_000, 1_000_001, 1_000_002] {
         let kind = if tokens == 1_000_002 { ErrorKind::UnexpectedEnd } else { ErrorKind::TooManyTokens };
-        match firthnapkin::parse_within(&many, Limits { depth: 5, tokens }) {
+        match firthnapkin::parse_within(&many, Limits { depth: 5, tokens, ..Limits::default() }) {
             Err(Error::Syntax(error)) => assert_eq!((error.kind, error.start.byte), (kind, 2 * tokens - 1)),
             other => panic!("{tokens} tokens: {:?}", other.map(|document| document.len())),
         }

@@ -43,7 +43,7 @@ fn parse_deep_texts() {
     use_own_bytes();
     for (head, part, middle, end, tail, levels) in NESTED {
         for depth in [0, 1, 2, 200, MAX_DEPTH] {
-            let limits = Limits { depth, tokens: u32::MAX };
+            let limits = Limits { depth, ..Limits::default() };
             let deeper = head.to_string() + &part.repeat(5000);
             assert_eq!(kind(&deeper, limits), ErrorKind::TooDeep);
             assert_eq!(kind(&deeper, Limits { tokens: 1, ..limits }), ErrorKind::TooManyTokens);
