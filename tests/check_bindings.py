@@ -21,9 +21,6 @@ def without_prefix(prefix, constants):
 
 kinds, statuses = enum("firthnapkin_kind"), enum("firthnapkin_status")
 errors = without_prefix("ERROR_", enum("firthnapkin_error_kind"))
-# The packages don't make the call that reports these two.
-for word in ("UNKNOWN_FRAGMENT", "FRAGMENT_CYCLE"):
-    check(f"{word} in the header", errors.pop(word, None) is not None, True)
 details = without_prefix("DETAIL_", enum("firthnapkin_error_detail"))
 # The library never reports these two.
 reported_errors = {word: number for word, number in errors.items() if word != "INVALID_SCALAR"}
@@ -47,20 +44,22 @@ def part(text, begin, end):
 
 # ---- Python
 
-nodes, document, error, parser, lexer = (
-    read(f"bindings/python/src/firthnapkin/{it}.py") for it in ("nodes", "document", "errors", "parser", "lexer")
+nodes, document, error, calls, lexer, complexities = (
+    read(f"bindings/python/src/firthnapkin/{it}.py") for it in ("nodes", "document", "errors", "calls", "lexer", "complexities")
 )
 member = r"^    ([A-Z_]+) = (\d+)$"
 check("Python's kinds", numbers(part(nodes, r"class Kind\(", r"\nclass "), member), kinds)
 kinds_of_tokens = without_prefix("TOKEN_", enum("firthnapkin_token_kind"))
 check("Python's kinds of tokens", numbers(part(lexer, r"class TokenKind\(", r"\nclass "), member), kinds_of_tokens)
 found = numbers(part(error, r"class ErrorKind\(", r"\nclass "), member)
-check("the kind of errors that Python adds", found.pop("SURROGATE"), len(errors))
+too_large = int(re.search(r"OPERATION_TOO_LARGE = (\d+)", read("bindings/sizes.h"))[1])
+check("the kinds of errors that Python adds", (found.pop("SURROGATE"), found.pop("OPERATION_TOO_LARGE")), (100, too_large))
 check("Python's kinds of errors", found, errors)
 check("Python's details", numbers(part(error, r"class ErrorDetail\(", r"\nclass "), member), details)
-names, values = re.search(r"^(_OK, [\w, ]*) = ([\d, ]+)$", parser, re.M).groups()
+names, values = re.search(r"^(_OK, [\w, ]*) = ([\d, ]+)$", calls, re.M).groups()
 for word, number in zip(names.split(", "), values.split(", ")):
     check(f"Python's status {word}", int(number), statuses[word[1:]])
+check("the status that Python adds", re.search(r"^_OPERATION_TOO_LARGE = (\d+)$", calls, re.M)[1], str(too_large))
 
 
 def format_of(word):
@@ -73,10 +72,13 @@ def format_of(word):
     return letters + "x" * (-size % largest)
 
 
-for name, text in (("Node", document), ("Error", parser), ("Token", lexer)):
+for name, text in (("Node", document), ("Error", calls), ("Token", lexer), ("Complexity", complexities)):
     written = re.search(r'^ *(?:_ERROR|_LAYOUT) = struct\.Struct\("=(\w+)"\)$', text, re.M)[1]
     plain = re.sub(r"(\d+)([A-Za-z])", lambda it: it[2] * int(it[1]), written)
     check(f"the parts of Python's {name.lower()}", plain, format_of(f"firthnapkin_{name.lower()}"))
+
+numbers_of_complexity = [field for field, _ in declared("firthnapkin_complexity")][1:]
+check("the numbers of Python's complexity", re.findall(r"^    (\w+): int$", complexities, re.M), numbers_of_complexity)
 
 # ---- Go, whose numbers are the header's own
 
@@ -92,6 +94,9 @@ for what, path, pattern, constants in (
     ("kinds of errors", "errors", r"^\t(\w+) +ErrorKind += C\.FIRTHNAPKIN_ERROR_(\w+)", reported_errors),
 ):
     check(f"Go's {what}", named(path, pattern), {word: word for word in constants})
+go = read("bindings/go/complexities.go")
+found = re.findall(r"^\t(\w+) +uint32 // ", go, re.M)
+check("the numbers of Go's Complexity", [upper(it).lower() for it in found], numbers_of_complexity)
 found = named("errors", r"^\t(\w+) +ErrorDetail += C\.FIRTHNAPKIN_DETAIL_(\w+)")
 check("Go's NoDetail", found.pop("NO_DETAIL"), "NONE")
 check("Go's other details", found, {word: word for word in reported_details if word != "NONE"})
@@ -110,6 +115,10 @@ for word, number in re.findall(r"^const (\w+): u32 = (\d+);", call, re.M):
     check(f"Rust's status {word}", int(number), statuses[word])
 library = read("bindings/rust/src/lib.rs")
 RUST_TYPES = {"u32": "uint32_t", "i64": "int64_t", "Position": "firthnapkin_position"}
+complexity = read("bindings/rust/src/complexity.rs")
+found = re.findall(r"^    pub (\w+): u32,$", complexity, re.M)
+check("the numbers of Rust's Complexity", found, numbers_of_complexity)
+check("how many numbers Rust's Complexity has", int(re.search(r"NUMBERS: usize = (\d+);", complexity)[1]), len(found))
 for name, text in (("RawNode", rust), ("RawError", call), ("RawToken", lexer), ("Position", rust)):
     body = part(text, rf"#\[repr\(C\)\]\n#\[derive\([^\n]*\n(?:pub(?:\(crate\))? )?struct {name} \{{", r"\n}")
     found = [(field, RUST_TYPES[kind]) for field, kind in re.findall(r"^    (?:pub )?(\w+): (\w+),$", body, re.M)]
@@ -125,23 +134,43 @@ for name, constants, others in (
     ("Kind", kinds, set()),
     ("TokenKind", kinds_of_tokens, set()),
     # No string that is a text has half of a surrogate pair alone.
-    ("ErrorKind", reported_errors, {"SURROGATE"}),
+    ("ErrorKind", reported_errors, {"SURROGATE", "OPERATION_TOO_LARGE"}),
     ("ErrorDetail", {word for word in reported_details if word != "NONE"}, set()),
 ):
     typed = set(re.findall(r'"(\w+)"', part(types, f"export type {name} =", r";\n")))
     check(f"the words of Node's {name} in its types", {upper(word) for word in typed}, {*constants, *others})
 
+numbers = re.search(r"^const NUMBERS = \[(.*)\];$", read("bindings/node/lib/document.js"), re.M)[1]
+check("the numbers of Node's complexity", [upper(it).lower() for it in re.findall(r"\w+", numbers)], numbers_of_complexity)
+
 # ---- the limits, in the header's order, and their defaults
 
 limits = [field for field, _ in declared("firthnapkin_limits") if field != "reserved"]
 for path, pattern in (
-    ("python/src/firthnapkin/parser.py", r"^    (\w+): Annotated\[.*Limit\("),
+    ("python/src/firthnapkin/parser.py", r"^    (\w+): Annotated\[.*, Limit\("),
     ("go/parse.go", r"^\t(\w+) +int // how "),
     ("rust/src/lib.rs", r'^    (\w+): u32 = .*, "How .*";$'),
     ("node/lib/limits.js", r'^  (\w+): \[.*, "How .*"\],$'),
 ):
     names = re.findall(pattern, read(f"bindings/{path}"), re.M)
     check(f"the limits of {path}", [upper(name).lower().removeprefix("max_") for name in names], limits)
+# Those on operations, in the order of their numbers. That on how deep fields are nested has a name of its own.
+sizes = ["field_depth" if it == "depth" else it for it in numbers_of_complexity]
+for path, pattern in (
+    ("python/src/firthnapkin/parser.py", r"^    (\w+): Annotated\[.*, SizeLimit\("),
+    ("python/src/firthnapkin/graphql_core.py", r"^    (max_\w+): Optional\[int\] = None,$"),
+    ("node/lib/limits.js", r'^  (\w+): "How .*",$'),
+    ("go/parse.go", r"^\t(\w+) +int // an operation's "),
+    ("rust/src/lib.rs", r'^    (\w+): "How .*", "[a-z ]+";$'),
+):
+    names = re.findall(pattern, read(f"bindings/{path}"), re.M)
+    found = [upper(name).lower().removeprefix("max_") for name in names]
+    check(f"the limits on operations of {path}", [it for it in found if it != "tokens"], sizes)
+words = part(read("bindings/sizes.h"), "size_name.*?= \\{", "}")
+counted = re.findall('"([a-z ]+)"', words)
+check("how many numbers have words", len(counted), len(sizes))
+found = re.findall(r'^    \w+: "How .*", "([a-z ]+)";$', library, re.M)
+check("what Rust's limits on operations are on", found, counted)
 for path, pattern in (
     ("python/src/firthnapkin/parser.py", r"^    depth: Annotated\[.*\] = (\d+),"),
     ("go/parse.go", r"DefaultLimits = Limits\{Depth: (\d+), "),
