@@ -4,6 +4,7 @@ pub mod Measure
 pub mod Elements
 pub mod Algebra
 pub mod Gaining
+pub mod EnteredFields
 pub mod OutlineBuilders
 pub mod ResolvedOutlines
 pub mod OwnComplexities

@@ -40,7 +40,7 @@ fn directives_complexity<'a, S: ScalarValue>(
 }
 
 /// The complexity of a field inside so many others, without its directives and what it selects.
-pub(crate) fn field_complexity(alias: &Option<Spanning<&str>>, level: u64) -> Complexity
+fn field_complexity(alias: &Option<Spanning<&str>>, level: u64) -> Complexity
     ensures { (l : ℕ) → level ≡ capped l → result ≡ capped_complexity (at_level l (parts.field_complexity (option_map view_word alias.now))) }
 {
     Complexity {

@@ -7,7 +7,6 @@ ghost use Rattle.juniper_complexity.specs.Gathered.{Begins, OpensField, OpensSpr
 ghost use Rattle.juniper_complexity.specs.declared.outline_builder.NamedSpread.{NamedSpread as Spread};
 
 use crate::complexity::Complexity;
-use crate::outline::field_complexity;
 use juniper::{Gather, Span, Spanning};
 use std::alloc::{AllocError, Global};
 use std::mem;
@@ -118,6 +117,25 @@ fn counted_directives(directives: &Option<PartCount>) -> Complexity
     }
 }
 
+// Adds so many directives to a complexity.
+#[inline(always)]
+fn add_directives(own: &mut Complexity, directives: &Option<PartCount>)
+    ensures { own.new ≡ plus_capped own.old (capped_complexity (counted_directives directives.now)) }
+{
+    // None of its numbers is above the largest.
+    let Complexity {
+        fields: _fields,
+        aliases: _aliases,
+        directives: _directives,
+        root_fields: _root_fields,
+        depth: _depth,
+    } = *own;
+    match directives {
+        None => {}
+        Some(_) => *own = own.plus(counted_directives(directives)),
+    }
+}
+
 impl<'a> OutlineBuilder<'a> {
     /// A builder that has gathered nothing.
     pub fn new(alloc: Global) -> Self {
@@ -146,8 +164,19 @@ impl<'a> OutlineBuilder<'a> {
         ensures opens { OpensField self.old self.new (option_map view_word alias.now) }
     {
         let around = self.level;
-        self.own = self.own.plus(field_complexity(alias, around));
-        self.level = around.saturating_add(1);
+        self.own.fields = self.own.fields.saturating_add(1);
+        match alias {
+            None => {}
+            Some(_) => self.own.aliases = self.own.aliases.saturating_add(1),
+        }
+        if around == 0 {
+            self.own.root_fields = self.own.root_fields.saturating_add(1);
+        }
+        let level = around.saturating_add(1);
+        if self.own.depth < level {
+            self.own.depth = level;
+        }
+        self.level = level;
         around
     }
 
@@ -158,7 +187,7 @@ impl<'a> OutlineBuilder<'a> {
         ensures spreads { self.new.spreads ≡ self.old.spreads }
         ensures level { self.new.level ≡ around }
     {
-        self.own = self.own.plus(counted_directives(directives));
+        add_directives(&mut self.own, directives);
         self.level = around;
     }
 
@@ -182,7 +211,7 @@ impl<'a> OutlineBuilder<'a> {
         ensures level { self.new.level ≡ self.old.level }
         ensures spreads { (others : List Spread) (spread : Spread) → self.old.spreads.items ≡ others ++ spread ∷ [] → self.new.spreads.items ≡ others ++ record spread { span = span.now } ∷ [] }
     {
-        self.own = self.own.plus(counted_directives(directives));
+        add_directives(&mut self.own, directives);
         let last = self.spreads.len().saturating_sub(1);
         if last < self.spreads.len() {
             self.spreads[last].span = *span;
@@ -196,7 +225,7 @@ impl<'a> OutlineBuilder<'a> {
         ensures spreads { self.new.spreads ≡ self.old.spreads }
         ensures level { self.new.level ≡ self.old.level }
     {
-        self.own = self.own.plus(counted_directives(directives));
+        add_directives(&mut self.own, directives);
     }
 
     /// Ends a definition, which is a fragment of this name, or an operation, and counts its directives.
@@ -211,9 +240,10 @@ impl<'a> OutlineBuilder<'a> {
         ensures spreads { result.spreads.items ≡ self.old.spreads.items }
         ensures mark { result.mark ≡ mark }
     {
+        add_directives(&mut self.own, directives);
         DefinitionOutline {
             fragment,
-            own: self.own.plus(counted_directives(directives)),
+            own: self.own,
             spreads: mem::replace(&mut self.spreads, Vec::new(self.alloc)),
             mark,
         }
