@@ -1,3 +1,4 @@
 pub mod Fronts
 pub mod NamesOfFields
 pub mod Trees
+pub mod EventsInTurn

@@ -6,3 +6,4 @@ pub mod FaultLines
 pub mod ArgumentValues
 pub mod Affordable
 pub mod Stores
+pub mod Json

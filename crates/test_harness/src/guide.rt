@@ -3,7 +3,9 @@
 mod arguments;
 mod compare;
 mod documents;
+mod executor;
 mod faults;
+mod json;
 mod kept;
 mod limiter;
 mod limits;
@@ -14,6 +16,7 @@ mod walk;
 pub use arguments::argument_value;
 pub use compare::same_literal;
 pub use documents::is_document;
+pub use executor::{AnswerFailure, answer_json};
 pub use faults::fault_line;
 pub use kept::kept_up_to;
 pub use limiter::{CostFailure, parse_affordable};

@@ -1,5 +1,5 @@
 //! Lists: the loops that read their items, and how they grow.
-ghost use Rattle.std.specs.Prelude.{◌≡◌, ◌++◌, ◌∷◌, [], OnOk};
+ghost use Rattle.std.specs.Prelude.{◌≡◌, ◌<◌, ◌++◌, ◌∷◌, [], IfOk, OnOk, vec_len, vec_capacity};
 
 use std::alloc::AllocError;
 
@@ -15,11 +15,36 @@ pub(crate) fn push_item<T: Drop>(
 ) -> Result<(), AllocError>
     ensures items { OnOk result (items.new.items ≡ items.old.items ++ item ∷ []) }
 {
+    if items.len() == items.capacity() {
+        match grow(items, expected) {
+            Ok(()) => {}
+            Err(error) => return give_up(item, error),
+        }
+    }
+    items.push_reserved(item);
+    Ok(())
+}
+
+// Requests capacity for one more item of a list that is full, or for as many as are expected of an empty one.
+#[inline(never)]
+fn grow<T>(items: &mut Vec<T>, expected: usize) -> Result<(), AllocError>
+    ensures items { items.new.items ≡ items.old.items }
+    ensures grown { OnOk result (vec_len items.new < vec_capacity items.new) }
+{
     if items.is_empty() {
         items.reserve_exact(expected)?;
     }
-    items.push(item)?;
-    Ok(())
+    items.reserve(1)
+}
+
+// Drops an item that can't be appended, apart from the code that appends: each place where a selection is dropped makes
+// it less likely that a list drops its selections in place.
+#[cold]
+#[inline(never)]
+fn give_up<T: Drop>(_item: T, error: AllocError) -> Result<(), AllocError>
+    ensures { IfOk result (λ _. ⊥) }
+{
+    Err(error)
 }
 
 /// The expected length of a list whose first item has just been read.

@@ -60,7 +60,7 @@ pub struct InlineFragment<'a, S: Drop> {
 }
 
 /// An entry of a selection set (GraphQL specification, October 2021, section 2.4).
-#[derive(Drop, PartialEq)]
+#[derive(PartialEq)]
 #[cycle(ast)]
 pub enum Selection<'a, S: Drop> {
     /// A field, as `a: b(c: 1) @d { e }` (section 2.5).
@@ -69,6 +69,29 @@ pub enum Selection<'a, S: Drop> {
     FragmentSpread(Spanning<FragmentSpread<'a, S>>),
     /// Selections under a type condition or directives, as `... on T @d { e }` (section 2.8.2).
     InlineFragment(Spanning<InlineFragment<'a, S>>),
+}
+
+// A derived drop isn't compiled into that of a list, which then copies each selection before it is dropped.
+impl<'a, S: Drop> Drop for Selection<'a, S> {
+    #[inline(always)]
+    fn drop(self) {
+        match self {
+            Selection::Field(
+                Spanning {
+                    item: Field {
+                        alias: _,
+                        name: _,
+                        arguments: _arguments,
+                        directives: _directives,
+                        selection_set: _selection_set,
+                    },
+                    span: _,
+                },
+            ) => {}
+            Selection::FragmentSpread(_spread) => {}
+            Selection::InlineFragment(_inline) => {}
+        }
+    }
 }
 
 /// A directive (GraphQL specification, October 2021, section 2.12).

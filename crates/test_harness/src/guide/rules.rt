@@ -1,5 +1,10 @@
 //! Three rules of validation, over the nodes of a document.
-ghost use Rattle.std.specs.Prelude.{◌<◌, length};
+ghost use Rattle.std.specs.Prelude.{◌<◌, length, IfOk};
+ghost use Rattle.std.specs.Str.{chars};
+ghost use Rattle.juniper_tokens.specs.Errors.{view_fault};
+ghost use Rattle.juniper.specs.Promise.{IfRefused, IsRefusal};
+ghost use Rattle.juniper.specs.Scalars.{default_scalars};
+ghost use Rattle.test_harness.specs.Documents.{IsDocumentText};
 
 use juniper::{DefaultScalarValue, ParseFailure, Span, parse_document_source};
 use juniper_nodes::{Label, Node, NodeKind, document_nodes};
@@ -16,7 +21,10 @@ type Breach<'t> = (&'static str, &'t Span);
 /// itself.
 ///
 /// Returns the error of a text that is no document, or `Memory` if memory runs out.
-pub fn broken_rules(alloc: Global, source: &str) -> Result<Vec<String>, ParseFailure> {
+pub fn broken_rules(alloc: Global, source: &str) -> Result<Vec<String>, ParseFailure>
+    ensures document { IfOk result (λ _. IsDocumentText (chars source.now)) }
+    ensures refused { IfRefused result (λ fault. IsRefusal default_scalars (chars source.now) (view_fault fault)) }
+{
     let document = parse_document_source::<DefaultScalarValue>(alloc, source)?;
     let nodes = document_nodes(alloc, &document)?;
     let mut found = Vec::new(alloc);

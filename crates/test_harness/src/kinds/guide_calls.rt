@@ -1,8 +1,9 @@
 //! The functions of the guide.
 
 use crate::guide::{
-    CostFailure, Store, argument_value, broken_rules, fault_line, field_names, is_document,
-    is_document_within, kept_up_to, parse_affordable, same_literal, store_query, stored_query,
+    AnswerFailure, CostFailure, Store, answer_json, argument_value, broken_rules, fault_line,
+    field_names, is_document, is_document_within, kept_up_to, parse_affordable, same_literal,
+    store_query, stored_query,
 };
 use crate::kinds::input_values::variables_of;
 use crate::kinds::word_of;
@@ -19,7 +20,7 @@ use std::collections::BTreeMap;
 /// `guide`: calls on the text. `is_document_within` takes a limit, `same_literal` another text, `argument_value` the name
 /// of an argument of the first field of the first operation, and the variables as the fields of an object. `stored` takes
 /// another text, which is looked for in a store of the text, `parse_affordable` the largest number of fields, within a depth
-/// of 3 and 20 tokens.
+/// of 3 and 20 tokens, `answer_json` the name of an operation, or `-` for none, and the variables as the fields of an object.
 pub fn answer(alloc: Global, out: &mut String, text: &str, call: &str) -> Written {
     let (word, rest) = word_of(call);
     match word {
@@ -34,6 +35,7 @@ pub fn answer(alloc: Global, out: &mut String, text: &str, call: &str) -> Writte
         "stored" => write_stored(out, stored(alloc, text, rest)),
         "parse_affordable" => write_affordable(alloc, out, text, rest),
         "broken_rules" => write_broken(out, broken_rules(alloc, text)),
+        "answer_json" => write_answer(alloc, out, text, rest),
         _ => answer_tree(alloc, out, text, word, rest),
     }
 }
@@ -84,6 +86,22 @@ fn write_broken(out: &mut String, broken: Result<Vec<String>, ParseFailure>) -> 
         Ok(broken) if broken.is_empty() => out.push_str("None"),
         Ok(broken) => write_items(out, &broken),
         Err(failure) => write_failure(out, failure),
+    }
+}
+
+// The answer to a request, of the operation of a name, with variables.
+fn write_answer(alloc: Global, out: &mut String, text: &str, call: &str) -> Written {
+    let (name, variables) = word_of(call);
+    let name = if name == "-" { None } else { Some(name) };
+    let Some(variables) = literal(alloc, variables)? else {
+        return out.push_str("no variables");
+    };
+    match answer_json(alloc, text, name, variables_of(alloc, variables)?) {
+        Ok(answer) => out.push_str(answer.as_str()),
+        Err(AnswerFailure::Parse(failure)) => write_failure(out, failure),
+        Err(AnswerFailure::Operation(failure)) => write!(out, "{failure:?}"),
+        Err(AnswerFailure::Fragment(span)) => write_named(out, "Fragment ", &span),
+        Err(AnswerFailure::Memory) => out.push_str("Memory"),
     }
 }
 
