@@ -53,7 +53,7 @@ COUNTS.update(odd_document=25, complexities=2010, bytes=2)
 
 # Of the kinds of run_calls those whose rows make calls, with the number of their rows.
 CALLS = {"cursor": 14, "requests": 7, "arguments": 12, "answer": 17, "devices": 2, "input_value": 22, "scalar": 24,
-         "odd_scalar": 42, "type_literal": 4, "name": 11, "into": 4, "guide": 32}  # fmt: skip
+         "odd_scalar": 42, "type_literal": 4, "name": 11, "into": 4, "guide": 37}  # fmt: skip
 COUNTS.update(CALLS)
 
 # The word of a run's end, by the program's exit status. If gqlcheck ends in a tree, gqlcanon ends in a text.
