@@ -254,10 +254,11 @@ static inline const char *firthnapkin_error_detail_name(uint32_t detail) {
  * without one it is at the first token that no document could have there. FIRTHNAPKIN_TOO_DEEP: the source has no lexical
  * error, not even after the token that is nested too deep. That token is the error, and those up to it begin a document.
  * FIRTHNAPKIN_TOO_MANY_TOKENS: the source has more tokens than limits->tokens, before its end or its first lexical error. The
- * first one too many is the error, and nothing was parsed. These three statuses write the error, the others leave it as it was.
+ * first one too many is the error, whether those before it begin a document or not. These three statuses write the error, the
+ * others leave it as it was.
  *
  * It also returns FIRTHNAPKIN_NOT_UTF8, FIRTHNAPKIN_OUT_OF_MEMORY, FIRTHNAPKIN_SOURCE_TOO_LONG and FIRTHNAPKIN_INVALID_LIMIT.
- * Before the first token is judged it holds 40 bytes for each token, and no tree is built. */
+ * It holds no list of tokens and no tree. */
 uint32_t firthnapkin_parse(const uint8_t *source, size_t length, const firthnapkin_limits *limits, firthnapkin_node *nodes,
                            size_t nodes_capacity, size_t *nodes_length, uint8_t *texts, size_t texts_capacity,
                            size_t *texts_length, firthnapkin_error *error);

@@ -207,10 +207,18 @@ REQUESTING = {
 # The texts on which the system calls of each program are counted: one is long when read, the other when written, too.
 SPREAD = ("spaces", "fields")
 
-# For calls on a hundred thousand definitions of twelve bytes: the least and the most bytes that they may hold for each byte
-# of the source. A call that builds the whole tree holds more than is allowed to one that passes on each definition.
+# Of calls on texts of 1.2 MB: the least and the most bytes that they may hold for each byte of the text. A call that builds the
+# whole tree holds more than is allowed to one that passes on each definition. The library for C holds the meaning of one string,
+# and four bytes for each byte of a text past ASCII; else nothing but what the program that calls it writes its lines with.
 HELD = [
-    (["run_calls", "calls", "parse", "into"], 1, 60),
-    (["c", "parse"], 1, 70),
-    (["run_calls", "calls", "parse", "200"], 80, 130),
+    (["run_calls", "calls", "parse", "into"], "definitions", 1, 60),
+    (["run_calls", "calls", "parse", "200"], "definitions", 80, 130),
+    (["c", "parse"], "definitions", 0, 0.01),
+    (["c", "parse"], "fields in fields", 0, 0.01),
+    (["c", "parse"], "types in types", 0, 0.01),
+    (["c", "parse"], "strings", 0, 0.01),
+    (["c", "parse"], "a long string", 1, 1.01),
+    (["c", "parse"], "tokens past text past ASCII", 4, 4.01),
+    (["c", "parse"], "a fault at the end", 0, 0.01),
+    (["c", "parse"], "brackets without an end", 0, 0.01),
 ]

@@ -230,7 +230,7 @@ class Statuses(unittest.TestCase):
         for call, exponent in ((f"parse(source, {USUAL!r})", 25), (f"parse(source, {weighed!r})", 25), ("complexities(source)", 24), ("tokens(source, 2**32 - 1)", 24), ("canonical(source)", 24)):
             found = process(
                 "import resource, firthnapkin\n"
-                "source = b'{' + b'a ' * 2**24 + b'}'\n"
+                "source = b'{' + b'...a ' * 2**23 + b'}'\n"
                 "taken = int(open('/proc/self/statm').read().split()[0]) * resource.getpagesize()\n"
                 f"resource.setrlimit(resource.RLIMIT_AS, (taken + 2**{exponent}, resource.RLIM_INFINITY))\n"
                 f"try: firthnapkin._parser.{call}\n"

@@ -16,8 +16,9 @@ pub use Rattle.graphql_lexical.proofs.Runs.{Stops, reach_is}
 pub use Rattle.graphql_lexical.proofs.SameKind.{kind_is, other_kind}
 pub use Rattle.graphql_lexical.proofs.Slices.{front_read, place_index, slices_in_order}
 pub use Rattle.graphql_lexical.proofs.Spacing.{goes_on_spaced, last_next}
+pub use Rattle.graphql_lexical.proofs.Streams.{cut_streams, stream_ends, whole_cut, DeeperFrom, ShallowFrom, Streams}
 pub use Rattle.graphql_lexical.proofs.Spelled.{RunsAs, accepts, runs_as}
-pub use Rattle.graphql_lexical.proofs.CutByTexts.{by_places, breaks_by_places, stands_to_text, stands_from_text, there_to_text, done_whole, leads_whole, leads_from_text, leads_more, cut_leads, breaks_lead}
+pub use Rattle.graphql_lexical.proofs.CutByTexts.{by_places, by_texts, breaks_by_places, stands_to_text, stands_from_text, there_to_text, done_whole, leads_whole, leads_from_text, leads_more, cut_leads, breaks_lead}
 pub use Rattle.graphql_lexical.proofs.Wholes.{by_kind, spells_token, unquoted}
 pub use Rattle.graphql_lexical.proofs.Widths.{IsWide, tokens_wide, tokens_in_order}
 pub use Rattle.graphql_lexical.proofs.Writing.{writes_nothing, writes_token, writes_white}

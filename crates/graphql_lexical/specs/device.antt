@@ -3,3 +3,4 @@ pub mod Scan
 pub mod Numbers
 pub mod Whole
 pub mod Indexed
+pub mod Streams

@@ -2,3 +2,4 @@ pub mod Seen
 pub mod Steps
 pub mod PartViews
 pub mod Builds
+pub mod Ended

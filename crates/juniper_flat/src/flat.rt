@@ -1,9 +1,8 @@
 //! The nodes of a source, in the caller's buffers.
 ghost use Rattle.std.specs.Prelude.{◌<◌, ◌≤◌, ◌^◌, ℕ, List, length, IfErr, IfOk};
 ghost use Rattle.std.specs.Str.{chars, IsUtf8};
-ghost use Rattle.graphql_lexical.specs.Cutting.{Cut};
 ghost use Rattle.juniper.specs.Limited.{FailsLimited, HasFewTokens};
-ghost use Rattle.juniper.specs.Within.{FailsWithin, IsWithin};
+ghost use Rattle.juniper.specs.Within.{IsWithin};
 ghost use Rattle.juniper_flat.specs.Builders.{BuildsNodes, KeepsBuffers};
 ghost use Rattle.juniper_flat.specs.Answers.{ReturnsParsed, IfTree, scalars};
 ghost use Rattle.juniper_flat.specs.ByteTables.{IsTableOf};
@@ -17,7 +16,7 @@ use crate::limits::Limits;
 use crate::node::Node;
 use crate::scalar::SourceScalar;
 use crate::source::{Unread, text_of};
-use juniper::{DepthFailure, Lexer, LimitFailure, ParseFailure, Parser, build_document};
+use juniper::{LimitFailure, Limits as Within, ParseFailure, build_document_source};
 use std::alloc::Global;
 
 /// How many nodes a document has, and how many bytes their texts have one after another.
@@ -106,27 +105,12 @@ fn build_nodes<'b>(
     ensures few { IfOk result (λ _. HasFewTokens limits.now.tokens (chars text.now)) }
     ensures failed { IfErr result (FailsLimited scalars limits.now.depth limits.now.tokens (chars text.now)) }
 {
-    let mut lexer = Lexer::new(alloc, text);
-    let mut parser = Parser::new_within(&mut lexer, limits.tokens as usize)?;
-    Ok(build_nodes_within(&mut parser, limits.depth as usize, builder)?)
-}
-
-// Builds the nodes of the tokens of a source.
-fn build_nodes_within<'b>(
-    parser: &mut Parser<'b>,
-    depth: usize,
-    builder: &mut NodeBuilder<'b>,
-) -> Result<(), DepthFailure>
-    ensures accepted { (source : List ℕ) → Cut source parser.old → IfOk result (λ _. BuildsNodes source builder.old builder.new) }
-    ensures kept { (source : List ℕ) → Cut source parser.old → IfOk result (λ _. KeepsBuffers builder.old builder.new) }
-    ensures within { (source : List ℕ) → Cut source parser.old → IfOk result (λ _. IsWithin scalars depth source) }
-    ensures failed { (source : List ℕ) → Cut source parser.old → IfErr result (FailsWithin scalars depth source) }
-{
-    let deep = parser.end_at_nesting(depth);
-    match build_document::<SourceScalar, NodeBuilder<'b>, DepthFailure>(
-        &mut parser.cursor(),
-        deep,
-        builder,
+    let within = Within {
+        depth: limits.depth as usize,
+        tokens: limits.tokens as usize,
+    };
+    match build_document_source::<SourceScalar, NodeBuilder<'b>, LimitFailure>(
+        alloc, &text, within, builder,
     ) {
         Ok(_) => Ok(()),
         Err(failure) => Err(failure),

@@ -2,9 +2,8 @@
 ghost use Rattle.std.specs.Prelude.{◌<◌, ◌≤◌, ◌^◌, ℕ, List, length, IfErr, IfOk};
 ghost use Rattle.std.specs.Str.{chars, IsUtf8};
 ghost use Rattle.graphql_grammar.specs.Tree.{Definition};
-ghost use Rattle.graphql_lexical.specs.Cutting.{Cut};
 ghost use Rattle.juniper.specs.Limited.{FailsLimited, HasFewTokens};
-ghost use Rattle.juniper.specs.Within.{FailsWithin, IsWithin};
+ghost use Rattle.juniper.specs.Within.{IsWithin};
 ghost use Rattle.juniper_complexity.specs.Gathered.{AreGathered, outlines_in};
 ghost use Rattle.juniper_values.specs.Scalar.{Content};
 ghost use Rattle.juniper_flat.specs.Answers.{scalars};
@@ -25,7 +24,7 @@ use crate::node::Node;
 use crate::numbers::{Numbers, write_numbers};
 use crate::scalar::SourceScalar;
 use crate::source::{Unread, text_of};
-use juniper::{DepthFailure, Lexer, LimitFailure, ParseFailure, Parser, build_document};
+use juniper::{LimitFailure, Limits as Within, ParseFailure, build_document_source};
 use juniper_complexity::{
     ComplexityFailure, DefinitionOutline, DefinitionOutlines, OutlineBuilder, gathered_complexities,
 };
@@ -145,25 +144,12 @@ fn build_both_of<'b>(
     ensures few { IfOk result (λ _. HasFewTokens limits.now.tokens (chars text.now)) }
     ensures failed { IfErr result (FailsLimited scalars limits.now.depth limits.now.tokens (chars text.now)) }
 {
-    let mut lexer = Lexer::new(alloc, text);
-    let mut parser = Parser::new_within(&mut lexer, limits.tokens as usize)?;
-    Ok(build_both_within(&mut parser, limits.depth as usize, builder)?)
-}
-
-fn build_both_within<'b>(
-    parser: &mut Parser<'b>,
-    depth: usize,
-    builder: &mut NodesAndOutlines<'b>,
-) -> Result<DefinitionOutlines<'b>, DepthFailure>
-    ensures accepted { (source : List ℕ) → Cut source parser.old → IfOk result (λ outlines. BuildsBoth source builder.old.nodes builder.new.nodes (outlines_in outlines)) }
-    ensures within { (source : List ℕ) → Cut source parser.old → IfOk result (λ _. IsWithin scalars depth source) }
-    ensures failed { (source : List ℕ) → Cut source parser.old → IfErr result (FailsWithin scalars depth source) }
-{
-    let deep = parser.end_at_nesting(depth);
-    match build_document::<SourceScalar, NodesAndOutlines<'b>, DepthFailure>(
-        &mut parser.cursor(),
-        deep,
-        builder,
+    let within = Within {
+        depth: limits.depth as usize,
+        tokens: limits.tokens as usize,
+    };
+    match build_document_source::<SourceScalar, NodesAndOutlines<'b>, LimitFailure>(
+        alloc, &text, within, builder,
     ) {
         Ok(definitions) => Ok(definitions),
         Err(failure) => Err(failure),

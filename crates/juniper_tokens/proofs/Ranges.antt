@@ -191,7 +191,7 @@ spelled_text Ints whole h = refl
 spelled_text (Fixed text) whole h = h
 spelled_text NoText whole h = absurd h
 
-read_text : (rest : List ℕ) (n : ℕ) (kind : Kind) (text : List ℕ) → ReadsAt rest n kind text
+pub read_text : (rest : List ℕ) (n : ℕ) (kind : Kind) (text : List ℕ) → ReadsAt rest n kind text
     → text ≡ kind_text kind (text_of kind (take n rest))
 read_text [] n kind text r =
     let e = read_end n kind text r in

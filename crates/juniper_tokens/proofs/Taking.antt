@@ -1,5 +1,5 @@
 -- What a cursor has left of its tokens, once more of them are taken.
-use Rattle.std.proofs.Common.{◌≡◌, ℕ, zero, suc, ◌+◌, ◌-◌, ◌<◌, ◌≤◌, List, length, drop, get_or, refl, sym, ap, subst, le_refl, ◌∙◌, arith, length-drop, drop-cons, false}
+use Rattle.std.proofs.Common.{◌≡◌, ℕ, zero, suc, ◌+◌, ◌-◌, ◌<◌, ◌≤◌, List, length, drop, get_or, refl, sym, ap, subst, le_refl, ◌∙◌, arith, length-drop, drop-cons, true, false}
 use Rattle.std.proofs.lemmas.List.{drop-drop, drop-map, get_or_default}
 use Rattle.std.proofs.lemmas.List.Elements.{All-get_or}
 use Rattle.graphql_lexical.specs.Place.{place}
@@ -23,14 +23,17 @@ pub within_tokens : (t : Taking) → EndsOnce (left t) → t.taken < length t.to
 within_tokens t h = omega (arith, some_ended _ h, length-drop t.taken t.tokens)
 
 pub stays : (t : Taking) → GoesOn t t
-stays t = record { same = refl; on = le_refl t.taken }
+stays t = record { same = refl; on = le_refl t.taken; still = refl }
 
 pub goes_further : (a b c : Taking) → GoesOn a b → GoesOn b c → GoesOn a c
-goes_further a b c g h = record { same = h.same ∙ g.same; on = omega (arith, g.on, h.on) }
+goes_further a b c g h = record { same = h.same ∙ g.same; on = omega (arith, g.on, h.on); still = h.still ∙ g.still }
+
+pub left_past : (t : Taking) → left (next_taken t) ≡ drop 1 (left t)
+left_past t = sym (drop-drop 1 t.taken t.tokens)
 
 -- a token is taken
 pub goes_past : (t : Taking) → GoesOn t (next_taken t)
-goes_past t = record { same = refl; on = omega arith }
+goes_past t = record { same = refl; on = omega arith; still = refl }
 
 -- what is left is a rest of what was left
 pub rest_of : (old new : Taking) → GoesOn old new → IsRest (left old) (left new)
@@ -62,7 +65,7 @@ some_taken old new g shorter = omega (arith, more_taken old new g shorter)
 -- A cursor over ranges of a source is seen as t.
 module _ (source : List ℕ) (ranges : List TokenRange) (starts : List ℕ) (taken : ℕ)
     (here : AreLeft source ranges starts taken) (t : Taking)
-    (seen : ◌≡◌ {A = Taking} (record { tokens = range_lexemes source ranges; taken = taken }) t) where
+    (seen : ◌≡◌ {A = Taking} (record { tokens = range_lexemes source ranges; taken = taken; whole = true }) t) where
   pub seen_left : range_lexemes source (drop taken ranges) ≡ left t
   seen_left = sym (drop-map (range_lexeme source) taken ranges) ∙ ap left seen
 
@@ -107,7 +110,7 @@ module _ (source : List ℕ) (ranges : List TokenRange) (starts : List ℕ) (tak
 -- A cursor stands on lines of its source.
 module _ (source : List ℕ) (ranges : List TokenRange) (starts : List ℕ) (taken : ℕ) (lines : NearLines)
     (here : StandsOn source ranges starts taken lines) (t : Taking)
-    (seen : ◌≡◌ {A = Taking} (record { tokens = range_lexemes source ranges; taken = taken }) t) where
+    (seen : ◌≡◌ {A = Taking} (record { tokens = range_lexemes source ranges; taken = taken; whole = true }) t) where
   pub are_starts : StartLines starts
   are_starts = subst StartLines (sym here.left.lines_are) (lines_start source)
 

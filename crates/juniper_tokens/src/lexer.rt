@@ -1,13 +1,15 @@
 //! The lexer.
-ghost use Rattle.std.specs.Prelude.{◌≡◌, ◌≤◌, false, drop, IfOk, OnOk};
+ghost use Rattle.std.specs.Prelude.{◌≡◌, ◌≤◌, false, drop, IfOk, IfSome, OnOk, Some};
 ghost use Rattle.std.specs.Global.{Global as Allocator};
 ghost use Rattle.std.specs.Str.{chars};
 ghost use Rattle.graphql_lexical.specs.Place.{place};
+ghost use Rattle.graphql_lexical.specs.declared.kind.Kind.TheVariants.{EndOfFile};
+ghost use Rattle.graphql_lexical.specs.Kinds.{same_kind};
 ghost use Rattle.juniper_tokens.specs.Lexing.{started};
 ghost use Rattle.juniper_tokens.specs.LineTables.{lines_of};
 ghost use Rattle.juniper_tokens.specs.device.LexingByScan.{past_ignored};
 ghost use Rattle.juniper_tokens.specs.device.LineSteps.{CountsLines, HasLines};
-ghost use Rattle.juniper_tokens.specs.device.Ranges.{TakesRange, TakesItem, TakesPlain, MayTake, IsRange, range_lexeme};
+ghost use Rattle.juniper_tokens.specs.device.Ranges.{TakesRange, TakesItem, TakesPlain, MayTake, IsRange, range_lexeme, range_steps};
 ghost use Rattle.juniper_tokens.specs.device.Scans.{Finds, IsPlain};
 ghost use Rattle.juniper_tokens.specs.device.Walks.{first_class};
 ghost use Rattle.juniper_tokens.specs.Tokens.{view_token};
@@ -108,6 +110,37 @@ impl<'a> Lexer<'a> {
         self.source
     }
 
+    /// The lexer's position.
+    #[inline(always)]
+    pub(crate) fn position(&self) -> SourcePosition
+        ensures { result ≡ place self.now.source self.now.index }
+    {
+        self.position
+    }
+
+    /// How many bytes of the source are left.
+    pub(crate) fn bytes_left(&self) -> usize {
+        self.source.len().saturating_sub(self.at)
+    }
+
+    /// An end at the lexer's position.
+    pub(crate) fn end_here(&self) -> TokenRange
+        ensures range { IsRange self.now.source result }
+        ensures kind { result.kind ≡ EndOfFile }
+        ensures at { result.start.characters ≡ self.now.index }
+        ensures none { result.end.characters ≡ self.now.index }
+    {
+        let here = Offset {
+            bytes: self.at,
+            characters: self.position.index(),
+        };
+        TokenRange {
+            kind: Kind::EndOfFile,
+            start: here,
+            end: here,
+        }
+    }
+
     /// Whether the last item has been returned.
     pub(crate) fn has_ended(&self) -> bool
         ensures { result ≡ self.now.ended }
@@ -115,9 +148,9 @@ impl<'a> Lexer<'a> {
         self.ended
     }
 
-    // Skips ignored tokens, and returns the class of the byte after them.
+    /// Skips ignored tokens, and returns the class of the byte after them.
     #[inline(always)]
-    fn skip_ignored(&mut self) -> ByteClass
+    pub(crate) fn skip_ignored(&mut self) -> ByteClass
         ensures passes { self.new ≡ past_ignored self.old }
         ensures class { result ≡ first_class (drop self.new.index self.new.source) }
     {
@@ -210,13 +243,14 @@ impl<'a> Lexer<'a> {
         self.take_plain(class)
     }
 
-    // Takes the token that begins here, with a byte of this class, if it is a plain one.
+    /// Takes the token that begins here, with a byte of this class, if it is a plain one.
     #[inline(always)]
-    fn take_plain(&mut self, class: ByteClass) -> Option<TokenRange>
+    pub(crate) fn take_plain(&mut self, class: ByteClass) -> Option<TokenRange>
         requires { class ≡ first_class (drop self.old.index self.old.source) }
         ensures source { self.new.source ≡ self.old.source }
         ensures takes { TakesPlain self.old result self.new }
         ensures ended { self.old.ended ≡ false → self.new.ended ≡ false }
+        ensures more { IfSome result (λ range. same_kind range.kind EndOfFile ≡ false) }
     {
         let here = Offset {
             bytes: self.at,
@@ -238,9 +272,9 @@ impl<'a> Lexer<'a> {
         item
     }
 
-    // The same. Most tokens are plain, so the code for all others stands out of the way.
+    /// The same. Most tokens are plain, so the code for all others stands out of the way.
     #[inline(never)]
-    fn scan_out_of_line(&mut self) -> Result<TokenRange, LexFailure>
+    pub(crate) fn scan_out_of_line(&mut self) -> Result<TokenRange, LexFailure>
         ensures source { self.new.source ≡ self.old.source }
         ensures takes { TakesItem self.old result self.new }
     {
@@ -260,6 +294,18 @@ impl<'a> Lexer<'a> {
                 self.ended = true;
                 Err(LexFailure::Memory)
             }
+        }
+    }
+
+    /// Takes the next token, which may be the last item, or returns why there is none.
+    #[inline(always)]
+    pub(crate) fn next_range(&mut self) -> Result<TokenRange, LexFailure>
+        requires { self.old.ended ≡ false }
+        ensures { range_steps self.old (Some result) self.new }
+    {
+        match self.next_plain() {
+            Some(range) => Ok(range),
+            None => self.scan(),
         }
     }
 

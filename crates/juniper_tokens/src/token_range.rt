@@ -117,10 +117,15 @@ impl TokenRange {
         }
     }
 
-    // The position after the last character, if the position `start` of the first one is known: the line of a block
-    // string's end alone is searched for.
+    /// The position after the last character, if the position `start` of the first one is known: the line of a block
+    /// string's end alone is searched for.
     #[inline(always)]
-    fn end_from(&self, source: &str, starts: &[usize], start: SourcePosition) -> SourcePosition
+    pub(crate) fn end_from(
+        &self,
+        source: &str,
+        starts: &[usize],
+        start: SourcePosition,
+    ) -> SourcePosition
         requires range { IsRange (chars source.now) self.now }
         requires lines { starts.now ≡ (lines_of (chars source.now)).starts }
         requires start { start ≡ place (chars source.now) self.now.start.characters }

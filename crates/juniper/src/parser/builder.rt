@@ -11,7 +11,7 @@ ghost use Rattle.juniper.specs.View.{type_of};
 
 use crate::parser::lists::push_item;
 use graphql_grammar::OperationType;
-use juniper_tokens::{SourceText, Span, Spanning};
+use juniper_tokens::{Feed, SourceText, Span, Spanning};
 use juniper_values::{NameText, ScalarValue, Type};
 use std::alloc::{AllocError, Global};
 
@@ -51,6 +51,9 @@ impl<X: Drop> Gather<X> for Vec<X> {
 pub trait Builder<S: ScalarValue> {
     /// A name of the source.
     type Name: SourceText + NameText + Drop;
+
+    /// Where its tokens come from: `Listed` from a parser, `Streamed` from a source.
+    type Feed: Feed;
 
     /// A part that is opened.
     type Open: Drop;

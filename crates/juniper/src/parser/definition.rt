@@ -18,7 +18,7 @@ use crate::tree::ast::Definition;
 use crate::tree::trees::Trees;
 use graphql_grammar::OperationType;
 use juniper_tokens::{
-    Cursor, Kind, OptionParseResult, ParseFailure, ParseResult, SourcePosition, SourceText,
+    Cursor, Feed, Kind, OptionParseResult, ParseFailure, ParseResult, SourcePosition, SourceText,
     UnlocatedParseResult,
 };
 use juniper_values::ScalarValue;
@@ -38,7 +38,7 @@ pub(crate) fn parse_definition_tree<'a, S: ScalarValue>(
 /// `Definition`, with an error of any type that is made of a parser's.
 // A call whose builder names a lifetime and a scalar type can't name the type of the error, which has a lifetime, too.
 fn parse_definition_or<S: ScalarValue, B: Builder<S>, F: Drop + From<ParseFailure>>(
-    tokens: &mut Cursor<'_, B::Name>,
+    tokens: &mut Cursor<'_, B::Name, B::Feed>,
     builder: &mut B,
 ) -> Result<B::Definition, F>
     ensures gives { BuildsOr F.from_gives (B.builds_definition builder.old builder.new) result (left tokens.new) (cursor (stated S.reading S.of_bool) definition (left tokens.old)) }
@@ -53,7 +53,7 @@ fn parse_definition_or<S: ScalarValue, B: Builder<S>, F: Drop + From<ParseFailur
 ///            | "fragment" FragmentName "on" Name Directive* SelectionSet`
 #[tactic(auto, using(crate::proofs::Names::fragment_is, crate::proofs::Cursors::word_is_no_end), unfolding(graphql_grammar::specs::device::Productions::definition))]
 pub(crate) fn parse_definition<S: ScalarValue, B: Builder<S>>(
-    tokens: &mut Cursor<'_, B::Name>,
+    tokens: &mut Cursor<'_, B::Name, B::Feed>,
     builder: &mut B,
 ) -> Result<B::Definition, ParseFailure>
     ensures gives { Builds (B.builds_definition builder.old builder.new) result (left tokens.new) (cursor (stated S.reading S.of_bool) definition (left tokens.old)) }
@@ -79,7 +79,7 @@ pub(crate) fn parse_definition<S: ScalarValue, B: Builder<S>>(
 
 /// The type of the operation that the next token begins, or None. The token is not taken.
 #[tactic(auto, using(crate::proofs::Names::query_is, crate::proofs::Names::mutation_is, crate::proofs::Names::subscription_is, crate::proofs::Names::operation_type_is))]
-fn next_operation<W: SourceText>(tokens: &Cursor<'_, W>) -> Option<OperationType>
+fn next_operation<W: SourceText, M: Feed>(tokens: &Cursor<'_, W, M>) -> Option<OperationType>
     ensures { result ≡ (if passes operation_word (first_of (left tokens.now)) then Some (operation_of (first_of (left tokens.now)).text) else None) }
 {
     if next_is_word(tokens, "mutation") {
@@ -96,7 +96,7 @@ fn next_operation<W: SourceText>(tokens: &Cursor<'_, W>) -> Option<OperationType
 /// `SelectionSet`, which begins at `start`.
 #[tactic(auto, unfolding(graphql_grammar::specs::device::Productions::shorthand))]
 fn parse_shorthand<S: ScalarValue, B: Builder<S>>(
-    tokens: &mut Cursor<'_, B::Name>,
+    tokens: &mut Cursor<'_, B::Name, B::Feed>,
     builder: &mut B,
     start: SourcePosition,
 ) -> Result<B::Definition, ParseFailure>
@@ -122,7 +122,7 @@ fn parse_shorthand<S: ScalarValue, B: Builder<S>>(
 /// `Name? Variables? Directive* SelectionSet`, after the word of this type, which begins at `start`.
 #[tactic(auto, unfolding(graphql_grammar::specs::device::Productions::operation))]
 fn parse_operation<S: ScalarValue, B: Builder<S>>(
-    tokens: &mut Cursor<'_, B::Name>,
+    tokens: &mut Cursor<'_, B::Name, B::Feed>,
     builder: &mut B,
     operation_type: OperationType,
     start: SourcePosition,
@@ -150,7 +150,9 @@ fn parse_operation<S: ScalarValue, B: Builder<S>>(
 
 /// `Name?`
 #[tactic(auto, using(juniper_tokens::proofs::Public::stays))]
-fn parse_optional_name<W: SourceText + Drop>(tokens: &mut Cursor<'_, W>) -> OptionParseResult<W>
+fn parse_optional_name<W: SourceText + Drop, M: Feed>(
+    tokens: &mut Cursor<'_, W, M>,
+) -> OptionParseResult<W>
     ensures gives { Gives (option_map (view_located W.characters)) result (left tokens.new) (cursor no_scalars optional_name (left tokens.old)) }
     ensures not_longer { OnOk result (length (left tokens.new) ≤ length (left tokens.old)) }
     ensures on { OnOk result (GoesOn tokens.old tokens.new) }
@@ -165,7 +167,7 @@ fn parse_optional_name<W: SourceText + Drop>(tokens: &mut Cursor<'_, W>) -> Opti
 /// `FragmentName "on" Name Directive* SelectionSet`, after the word `fragment`, which begins at `start`.
 #[tactic(auto, unfolding(graphql_grammar::specs::device::Productions::fragment))]
 fn parse_fragment<S: ScalarValue, B: Builder<S>>(
-    tokens: &mut Cursor<'_, B::Name>,
+    tokens: &mut Cursor<'_, B::Name, B::Feed>,
     builder: &mut B,
     start: SourcePosition,
 ) -> Result<B::Definition, ParseFailure>
@@ -191,7 +193,9 @@ fn parse_fragment<S: ScalarValue, B: Builder<S>>(
 
 /// `FragmentName = a Name other than "on"`
 #[tactic(auto, using(crate::proofs::Names::on_is))]
-fn parse_fragment_name<W: SourceText + Drop>(tokens: &mut Cursor<'_, W>) -> ParseResult<W>
+fn parse_fragment_name<W: SourceText + Drop, M: Feed>(
+    tokens: &mut Cursor<'_, W, M>,
+) -> ParseResult<W>
     ensures gives { Gives (view_located W.characters) result (left tokens.new) (cursor no_scalars fragment_name (left tokens.old)) }
     ensures shorter { OnOk result (length (left tokens.new) < length (left tokens.old)) }
     ensures on { OnOk result (GoesOn tokens.old tokens.new) }

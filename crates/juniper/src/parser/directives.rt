@@ -21,7 +21,7 @@ use juniper_values::ScalarValue;
 /// `Name ":" Value(free)`
 #[tactic(auto, using(juniper_tokens::proofs::Public::goes_further), unfolding(graphql_grammar::specs::device::Productions::argument))]
 fn parse_argument<S: ScalarValue, B: Builder<S>>(
-    tokens: &mut Cursor<'_, B::Name>,
+    tokens: &mut Cursor<'_, B::Name, B::Feed>,
     builder: &mut B,
 ) -> Result<B::Argument, ParseFailure>
     ensures gives { Builds (B.builds_argument builder.old builder.new) result (left tokens.new) (cursor (stated S.reading S.of_bool) argument (left tokens.old)) }
@@ -38,7 +38,7 @@ fn parse_argument<S: ScalarValue, B: Builder<S>>(
 /// `(Name ":" Value(free))+ ")"`
 #[tactic(auto, using(juniper_tokens::proofs::Public::goes_further, juniper_tokens::proofs::Public::stays))]
 fn parse_argument_list<S: ScalarValue, B: Builder<S>>(
-    tokens: &mut Cursor<'_, B::Name>,
+    tokens: &mut Cursor<'_, B::Name, B::Feed>,
     builder: &mut B,
 ) -> Result<B::ArgumentList, ParseFailure>
     ensures gives { Builds (BuildsList B.builds_argument B.ArgumentList.gathered builder.old builder.new) result (left tokens.new) (cursor (stated S.reading S.of_bool) arguments_inner (left tokens.old)) }
@@ -57,7 +57,7 @@ fn parse_argument_list<S: ScalarValue, B: Builder<S>>(
 #[inline(never)]
 #[tactic(auto, using(juniper_tokens::proofs::Public::goes_further, juniper_tokens::proofs::Public::some_taken), unfolding(graphql_grammar::specs::device::Productions::arguments))]
 fn parse_arguments<S: ScalarValue, B: Builder<S>>(
-    tokens: &mut Cursor<'_, B::Name>,
+    tokens: &mut Cursor<'_, B::Name, B::Feed>,
     builder: &mut B,
 ) -> Result<B::Arguments, ParseFailure>
     ensures gives { Builds (B.builds_arguments builder.old builder.new) result (left tokens.new) (cursor (stated S.reading S.of_bool) arguments (left tokens.old)) }
@@ -75,7 +75,7 @@ fn parse_arguments<S: ScalarValue, B: Builder<S>>(
 #[inline(always)]
 #[tactic(auto, using(juniper_tokens::proofs::Public::stays), unfolding(graphql_grammar::specs::device::Productions::optional_arguments))]
 pub(crate) fn parse_optional_arguments<S: ScalarValue, B: Builder<S>>(
-    tokens: &mut Cursor<'_, B::Name>,
+    tokens: &mut Cursor<'_, B::Name, B::Feed>,
     builder: &mut B,
 ) -> Result<Option<B::Arguments>, ParseFailure>
     ensures gives { Builds (BuildsOptional B.builds_arguments builder.old builder.new) result (left tokens.new) (cursor (stated S.reading S.of_bool) optional_arguments (left tokens.old)) }
@@ -92,7 +92,7 @@ pub(crate) fn parse_optional_arguments<S: ScalarValue, B: Builder<S>>(
 /// `Arguments`, in a stack slot of its own.
 #[inline(always)]
 fn parse_some_arguments<S: ScalarValue, B: Builder<S>>(
-    tokens: &mut Cursor<'_, B::Name>,
+    tokens: &mut Cursor<'_, B::Name, B::Feed>,
     builder: &mut B,
 ) -> Result<Option<B::Arguments>, ParseFailure>
     ensures gives { Builds (BuildsOptional B.builds_arguments builder.old builder.new) result (left tokens.new) (cursor (stated S.reading S.of_bool) (part arguments (λ a. gives (Some a))) (left tokens.old)) }
@@ -105,7 +105,7 @@ fn parse_some_arguments<S: ScalarValue, B: Builder<S>>(
 /// `Directive = "@" Name Arguments?`
 #[tactic(auto, using(juniper_tokens::proofs::Public::goes_further, juniper_tokens::proofs::Public::some_taken, crate::proofs::Cursors::closing_is_no_end), unfolding(graphql_grammar::specs::device::Productions::directive))]
 fn parse_directive<S: ScalarValue, B: Builder<S>>(
-    tokens: &mut Cursor<'_, B::Name>,
+    tokens: &mut Cursor<'_, B::Name, B::Feed>,
     builder: &mut B,
 ) -> Result<B::Directive, ParseFailure>
     ensures gives { Builds (B.builds_directive builder.old builder.new) result (left tokens.new) (cursor (stated S.reading S.of_bool) directive (left tokens.old)) }
@@ -124,7 +124,7 @@ fn parse_directive<S: ScalarValue, B: Builder<S>>(
 #[tactic(auto, using(juniper_tokens::proofs::Public::stays))]
 #[inline(always)]
 pub(crate) fn parse_directives<S: ScalarValue, B: Builder<S>>(
-    tokens: &mut Cursor<'_, B::Name>,
+    tokens: &mut Cursor<'_, B::Name, B::Feed>,
     builder: &mut B,
 ) -> Result<Option<B::Directives>, ParseFailure>
     ensures gives { Builds (BuildsOptional (BuildsList B.builds_directive B.Directives.gathered) builder.old builder.new) result (left tokens.new) (cursor (stated S.reading S.of_bool) directives (left tokens.old)) }
@@ -141,7 +141,7 @@ pub(crate) fn parse_directives<S: ScalarValue, B: Builder<S>>(
 /// `Directive+`, in a stack slot of its own.
 #[inline(always)]
 fn parse_some_directives<S: ScalarValue, B: Builder<S>>(
-    tokens: &mut Cursor<'_, B::Name>,
+    tokens: &mut Cursor<'_, B::Name, B::Feed>,
     builder: &mut B,
 ) -> Result<Option<B::Directives>, ParseFailure>
     requires at { same_kind (kind_at (left tokens.old)) At ≡ true }
@@ -157,7 +157,7 @@ fn parse_some_directives<S: ScalarValue, B: Builder<S>>(
 #[tactic(auto, using(juniper_tokens::proofs::Public::goes_further, juniper_tokens::proofs::Public::stays))]
 #[inline(never)]
 fn parse_directive_list<S: ScalarValue, B: Builder<S>>(
-    tokens: &mut Cursor<'_, B::Name>,
+    tokens: &mut Cursor<'_, B::Name, B::Feed>,
     builder: &mut B,
 ) -> Result<Option<B::Directives>, ParseFailure>
     requires at { same_kind (kind_at (left tokens.old)) At ≡ true }

@@ -12,10 +12,10 @@ ghost use Rattle.juniper_tokens.specs.Taking.{left, last_end, GoesOn};
 ghost use Rattle.juniper.specs.device.Steps.{closing_at, GivesNext};
 
 use juniper_tokens::text::same_text;
-use juniper_tokens::{Cursor, Kind, ParseFailure, SourceText};
+use juniper_tokens::{Cursor, Feed, Kind, ParseFailure, SourceText};
 
 /// Whether the next token is of this kind. It is not taken.
-pub(crate) fn next_is<W: SourceText>(tokens: &Cursor<'_, W>, kind: Kind) -> bool
+pub(crate) fn next_is<W: SourceText, M: Feed>(tokens: &Cursor<'_, W, M>, kind: Kind) -> bool
     ensures is { result ≡ same_kind (kind_at (left tokens.now)) kind }
     ensures ended { EndsOnce (left tokens.now) }
 {
@@ -23,7 +23,7 @@ pub(crate) fn next_is<W: SourceText>(tokens: &Cursor<'_, W>, kind: Kind) -> bool
 }
 
 /// Whether the next token is a Name of this text. It is not taken.
-pub(crate) fn next_is_word<W: SourceText>(tokens: &Cursor<'_, W>, text: &str) -> bool
+pub(crate) fn next_is_word<W: SourceText, M: Feed>(tokens: &Cursor<'_, W, M>, text: &str) -> bool
     ensures is { result ≡ passes (word (chars text.now)) (first_of (left tokens.now)) }
     ensures ended { EndsOnce (left tokens.now) }
 {
@@ -33,7 +33,7 @@ pub(crate) fn next_is_word<W: SourceText>(tokens: &Cursor<'_, W>, text: &str) ->
 /// Takes the next token if it is of this kind, and returns whether it is.
 #[tactic(auto, using(crate::proofs::Cursors::closing_is_no_end, crate::proofs::Marks::last_taken, juniper_tokens::proofs::Public::stays))]
 #[inline(always)]
-pub(crate) fn take_if<W: SourceText>(tokens: &mut Cursor<'_, W>, kind: Kind) -> bool
+pub(crate) fn take_if<W: SourceText, M: Feed>(tokens: &mut Cursor<'_, W, M>, kind: Kind) -> bool
     requires { same_kind kind EndOfFile ≡ false }
     ensures takes { (if result then Some (first_of (left tokens.old)).span else None, left tokens.new) ≡ closing_at kind (left tokens.old) }
     ensures ended { EndsOnce (left tokens.old) }
@@ -54,8 +54,8 @@ pub(crate) fn take_if<W: SourceText>(tokens: &mut Cursor<'_, W>, kind: Kind) -> 
 /// Another token is taken too, and reported as unexpected. At the end nothing is taken.
 #[tactic(auto, using(crate::proofs::Cursors::closing_is_no_end, crate::proofs::Marks::last_taken))]
 #[inline(always)]
-pub(crate) fn expect<W: SourceText>(
-    tokens: &mut Cursor<'_, W>,
+pub(crate) fn expect<W: SourceText, M: Feed>(
+    tokens: &mut Cursor<'_, W, M>,
     kind: Kind,
 ) -> Result<(), ParseFailure>
     requires { same_kind kind EndOfFile ≡ false }

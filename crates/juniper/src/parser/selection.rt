@@ -19,7 +19,7 @@ use crate::parser::lists::many;
 use crate::parser::next::{expect, next_is, next_is_word, take_if};
 use juniper_tokens::text::same_text;
 use juniper_tokens::{
-    Cursor, Kind, OptionParseResult, ParseFailure, ParseResult, SourcePosition, SourceText,
+    Cursor, Feed, Kind, OptionParseResult, ParseFailure, ParseResult, SourcePosition, SourceText,
     Spanning,
 };
 use juniper_values::ScalarValue;
@@ -32,7 +32,7 @@ const MANY_TOKENS: usize = 128;
 #[inline(never)]
 #[tactic(auto, using(juniper_tokens::proofs::Public::goes_further), unfolding(graphql_grammar::specs::device::Productions::selection_set))]
 pub(crate) fn parse_selection_set<S: ScalarValue, B: Builder<S>>(
-    tokens: &mut Cursor<'_, B::Name>,
+    tokens: &mut Cursor<'_, B::Name, B::Feed>,
     builder: &mut B,
 ) -> Result<B::Selections, ParseFailure>
     ensures gives { Builds (BuildsSet B.builds_selection B.Selections.gathered builder.old builder.new) result (left tokens.new) (cursor (stated S.reading S.of_bool) selection_set (left tokens.old)) }
@@ -47,7 +47,7 @@ pub(crate) fn parse_selection_set<S: ScalarValue, B: Builder<S>>(
 #[cycle(selection)]
 #[tactic(auto, using(juniper_tokens::proofs::Public::goes_further, juniper_tokens::proofs::Public::stays))]
 fn parse_selection_list<S: ScalarValue, B: Builder<S>>(
-    tokens: &mut Cursor<'_, B::Name>,
+    tokens: &mut Cursor<'_, B::Name, B::Feed>,
     builder: &mut B,
 ) -> Result<B::Selections, ParseFailure>
     ensures gives { Builds (BuildsList B.builds_selection B.Selections.gathered builder.old builder.new) result (left tokens.new) (cursor (stated S.reading S.of_bool) selections_inner (left tokens.old)) }
@@ -68,7 +68,7 @@ fn parse_selection_list<S: ScalarValue, B: Builder<S>>(
 #[inline(always)]
 #[tactic(auto, using(juniper_tokens::proofs::Public::stays), unfolding(graphql_grammar::specs::device::Productions::optional_set))]
 fn parse_optional_selection_set<S: ScalarValue, B: Builder<S>>(
-    tokens: &mut Cursor<'_, B::Name>,
+    tokens: &mut Cursor<'_, B::Name, B::Feed>,
     builder: &mut B,
 ) -> Result<Option<B::Selections>, ParseFailure>
     ensures gives { Builds (BuildsOptional (BuildsSet B.builds_selection B.Selections.gathered) builder.old builder.new) result (left tokens.new) (cursor (stated S.reading S.of_bool) optional_set (left tokens.old)) }
@@ -86,7 +86,7 @@ fn parse_optional_selection_set<S: ScalarValue, B: Builder<S>>(
 #[cycle(selection)]
 #[inline(always)]
 fn parse_some_selection_set<S: ScalarValue, B: Builder<S>>(
-    tokens: &mut Cursor<'_, B::Name>,
+    tokens: &mut Cursor<'_, B::Name, B::Feed>,
     builder: &mut B,
 ) -> Result<Option<B::Selections>, ParseFailure>
     ensures gives { Builds (BuildsOptional (BuildsSet B.builds_selection B.Selections.gathered) builder.old builder.new) result (left tokens.new) (cursor (stated S.reading S.of_bool) (part selection_set (λ s. gives (Some s))) (left tokens.old)) }
@@ -100,7 +100,7 @@ fn parse_some_selection_set<S: ScalarValue, B: Builder<S>>(
 #[cycle(selection)]
 #[tactic(auto, using(juniper_tokens::proofs::Public::goes_further, crate::proofs::Readings::selection_is), unfolding(graphql_grammar::specs::device::Productions::any_selection))]
 fn parse_selection<S: ScalarValue, B: Builder<S>>(
-    tokens: &mut Cursor<'_, B::Name>,
+    tokens: &mut Cursor<'_, B::Name, B::Feed>,
     builder: &mut B,
 ) -> Result<B::Selection, ParseFailure>
     ensures gives { Builds (B.builds_selection builder.old builder.new) result (left tokens.new) (selection_read (stated S.reading S.of_bool) (left tokens.old)) }
@@ -118,7 +118,7 @@ fn parse_selection<S: ScalarValue, B: Builder<S>>(
 #[cycle(selection)]
 #[inline(always)]
 fn parse_some_spread<S: ScalarValue, B: Builder<S>>(
-    tokens: &mut Cursor<'_, B::Name>,
+    tokens: &mut Cursor<'_, B::Name, B::Feed>,
     builder: &mut B,
 ) -> Result<B::Selection, ParseFailure>
     ensures gives { Builds (B.builds_selection builder.old builder.new) result (left tokens.new) (cursor (stated S.reading S.of_bool) spread (left tokens.old)) }
@@ -132,7 +132,7 @@ fn parse_some_spread<S: ScalarValue, B: Builder<S>>(
 #[cycle(selection)]
 #[tactic(auto, unfolding(graphql_grammar::specs::device::Productions::field))]
 fn parse_field<S: ScalarValue, B: Builder<S>>(
-    tokens: &mut Cursor<'_, B::Name>,
+    tokens: &mut Cursor<'_, B::Name, B::Feed>,
     builder: &mut B,
 ) -> Result<B::Selection, ParseFailure>
     ensures gives { Builds (B.builds_selection builder.old builder.new) result (left tokens.new) (cursor (stated S.reading S.of_bool) field (left tokens.old)) }
@@ -160,10 +160,10 @@ fn parse_field<S: ScalarValue, B: Builder<S>>(
 /// The expected length of a set whose first selection has just been read. In a short document a request for less memory
 /// is quicker.
 #[inline(always)]
-fn expected_selections<W: SourceText>(tokens: &Cursor<'_, W>) -> usize {
+fn expected_selections<W: SourceText, M: Feed>(tokens: &Cursor<'_, W, M>) -> usize {
     if next_is(tokens, Kind::CurlyClose) {
         1
-    } else if tokens.count() < MANY_TOKENS {
+    } else if tokens.expected() < MANY_TOKENS {
         3
     } else {
         6
@@ -173,8 +173,8 @@ fn expected_selections<W: SourceText>(tokens: &Cursor<'_, W>) -> usize {
 /// `(Name ":")? Name`
 #[inline(always)]
 #[tactic(auto, using(juniper_tokens::proofs::Public::goes_further))]
-fn parse_names<W: SourceText + Drop>(
-    tokens: &mut Cursor<'_, W>,
+fn parse_names<W: SourceText + Drop, M: Feed>(
+    tokens: &mut Cursor<'_, W, M>,
 ) -> Result<(Option<Spanning<W>>, Spanning<W>), ParseFailure>
     ensures gives { Gives (names_of W.characters) result (left tokens.new) (cursor no_scalars names (left tokens.old)) }
     ensures shorter { OnOk result (length (left tokens.new) < length (left tokens.old)) }
@@ -193,7 +193,7 @@ fn parse_names<W: SourceText + Drop>(
 #[cycle(selection)]
 #[tactic(auto, unfolding(graphql_grammar::specs::device::Productions::spread))]
 fn parse_spread<S: ScalarValue, B: Builder<S>>(
-    tokens: &mut Cursor<'_, B::Name>,
+    tokens: &mut Cursor<'_, B::Name, B::Feed>,
     builder: &mut B,
 ) -> Result<B::Selection, ParseFailure>
     ensures gives { Builds (B.builds_selection builder.old builder.new) result (left tokens.new) (cursor (stated S.reading S.of_bool) spread (left tokens.old)) }
@@ -211,7 +211,7 @@ fn parse_spread<S: ScalarValue, B: Builder<S>>(
 
 /// Whether the next token is a FragmentName, a Name other than "on". It is not taken.
 #[tactic(auto, using(crate::proofs::Names::on_is))]
-fn next_is_fragment_name<W: SourceText>(tokens: &Cursor<'_, W>) -> bool
+fn next_is_fragment_name<W: SourceText, M: Feed>(tokens: &Cursor<'_, W, M>) -> bool
     ensures is { result ≡ passes other_than_on (first_of (left tokens.now)) }
     ensures ended { EndsOnce (left tokens.now) }
 {
@@ -221,7 +221,7 @@ fn next_is_fragment_name<W: SourceText>(tokens: &Cursor<'_, W>) -> bool
 /// `FragmentName Directive*`, after three dots that begin at `start`. The name is known not to be `on`.
 #[tactic(auto, unfolding(graphql_grammar::specs::device::Productions::named_spread))]
 fn parse_named_spread<S: ScalarValue, B: Builder<S>>(
-    tokens: &mut Cursor<'_, B::Name>,
+    tokens: &mut Cursor<'_, B::Name, B::Feed>,
     builder: &mut B,
     start: SourcePosition,
 ) -> Result<B::Selection, ParseFailure>
@@ -240,7 +240,7 @@ fn parse_named_spread<S: ScalarValue, B: Builder<S>>(
 #[cycle(selection)]
 #[tactic(auto, using(crate::proofs::SelectionViews::view_of_inline), unfolding(graphql_grammar::specs::device::Productions::inline))]
 fn parse_inline_fragment<S: ScalarValue, B: Builder<S>>(
-    tokens: &mut Cursor<'_, B::Name>,
+    tokens: &mut Cursor<'_, B::Name, B::Feed>,
     builder: &mut B,
     start: SourcePosition,
 ) -> Result<B::Selection, ParseFailure>
@@ -263,8 +263,8 @@ fn parse_inline_fragment<S: ScalarValue, B: Builder<S>>(
 
 /// `("on" Name)?`
 #[tactic(auto, using(crate::proofs::Names::on_is, juniper_tokens::proofs::Public::stays))]
-fn parse_optional_type_condition<W: SourceText + Drop>(
-    tokens: &mut Cursor<'_, W>,
+fn parse_optional_type_condition<W: SourceText + Drop, M: Feed>(
+    tokens: &mut Cursor<'_, W, M>,
 ) -> OptionParseResult<W>
     ensures gives { Gives (option_map (view_located W.characters)) result (left tokens.new) (cursor no_scalars optional_condition (left tokens.old)) }
     ensures not_longer { OnOk result (length (left tokens.new) ≤ length (left tokens.old)) }
@@ -279,8 +279,8 @@ fn parse_optional_type_condition<W: SourceText + Drop>(
 
 /// `"on" Name`
 #[tactic(auto, using(crate::proofs::Names::on_is, crate::proofs::Cursors::word_is_no_end, juniper_tokens::proofs::Public::goes_further))]
-pub(crate) fn parse_type_condition<W: SourceText + Drop>(
-    tokens: &mut Cursor<'_, W>,
+pub(crate) fn parse_type_condition<W: SourceText + Drop, M: Feed>(
+    tokens: &mut Cursor<'_, W, M>,
 ) -> ParseResult<W>
     ensures gives { Gives (view_located W.characters) result (left tokens.new) (cursor no_scalars type_condition (left tokens.old)) }
     ensures shorter { OnOk result (length (left tokens.new) < length (left tokens.old)) }
@@ -298,7 +298,7 @@ pub(crate) fn parse_type_condition<W: SourceText + Drop>(
 #[cycle(selection)]
 #[tactic(auto, using(juniper_tokens::proofs::Public::goes_further), unfolding(graphql_grammar::specs::device::Productions::inline_parts))]
 pub(crate) fn parse_inline_parts<S: ScalarValue, B: Builder<S>>(
-    tokens: &mut Cursor<'_, B::Name>,
+    tokens: &mut Cursor<'_, B::Name, B::Feed>,
     builder: &mut B,
 ) -> Result<(Option<B::Directives>, B::Selections), ParseFailure>
     ensures gives { Builds (BuildsBoth (BuildsOptional (BuildsList B.builds_directive B.Directives.gathered)) (BuildsSet B.builds_selection B.Selections.gathered) builder.old builder.new) result (left tokens.new) (cursor (stated S.reading S.of_bool) inline_parts (left tokens.old)) }

@@ -9,7 +9,7 @@ ghost use Rattle.juniper.specs.View.{type_of, view_located, view_spanned_type};
 ghost use Rattle.juniper.specs.device.Steps.{no_scalars, cursor, type_read};
 
 use crate::parser::next::{expect, next_is, take_if};
-use juniper_tokens::{Cursor, Kind, ParseFailure, ParseResult, Parser, SourceText, Spanning};
+use juniper_tokens::{Cursor, Feed, Kind, ParseFailure, ParseResult, Parser, SourceText, Spanning};
 use juniper_values::{NameText, Type};
 
 /// Parses the longest prefix of the tokens that is a type (GraphQL specification, October 2021, section 2.11).
@@ -36,8 +36,8 @@ pub fn parse_type<'a>(parser: &mut Parser<'a>) -> ParseResult<Type<&'a str>>
 /// `Type = Name "!"? | "[" Type "]" "!"?`
 #[cycle(types)]
 #[tactic(auto, using(juniper_tokens::proofs::Public::goes_further))]
-pub(crate) fn parse_any_type<W: SourceText + NameText + Drop>(
-    tokens: &mut Cursor<'_, W>,
+pub(crate) fn parse_any_type<W: SourceText + NameText + Drop, M: Feed>(
+    tokens: &mut Cursor<'_, W, M>,
 ) -> ParseResult<Type<W>>
     ensures gives { Gives (view_located (type_of W.characters)) result (left tokens.new) (type_read (left tokens.old)) }
     ensures ended { EndsOnce (left tokens.old) }
@@ -51,8 +51,8 @@ pub(crate) fn parse_any_type<W: SourceText + NameText + Drop>(
 /// `Name | "[" Type "]"`
 #[cycle(types)]
 #[tactic(auto, unfolding(graphql_grammar::specs::device::Productions::nullable_type))]
-fn parse_nullable_type<W: SourceText + NameText + Drop>(
-    tokens: &mut Cursor<'_, W>,
+fn parse_nullable_type<W: SourceText + NameText + Drop, M: Feed>(
+    tokens: &mut Cursor<'_, W, M>,
 ) -> ParseResult<Type<W>>
     ensures gives { Gives (view_located (type_of W.characters)) result (left tokens.new) (cursor no_scalars nullable_type (left tokens.old)) }
     ensures ended { EndsOnce (left tokens.old) }
@@ -68,8 +68,8 @@ fn parse_nullable_type<W: SourceText + NameText + Drop>(
 
 /// `Name`
 #[tactic(auto, unfolding(graphql_grammar::specs::device::Productions::named_type))]
-fn parse_named_type<W: SourceText + NameText + Drop>(
-    tokens: &mut Cursor<'_, W>,
+fn parse_named_type<W: SourceText + NameText + Drop, M: Feed>(
+    tokens: &mut Cursor<'_, W, M>,
 ) -> ParseResult<Type<W>>
     ensures gives { Gives (view_located (type_of W.characters)) result (left tokens.new) (cursor no_scalars named_type (left tokens.old)) }
     ensures shorter { OnOk result (length (left tokens.new) < length (left tokens.old)) }
@@ -82,8 +82,8 @@ fn parse_named_type<W: SourceText + NameText + Drop>(
 /// `"[" Type "]"`
 #[cycle(types)]
 #[tactic(auto, using(juniper_tokens::proofs::Public::goes_further, crate::proofs::Wrapping::wrapped_list), unfolding(graphql_grammar::specs::device::Productions::list_type))]
-fn parse_list_type<W: SourceText + NameText + Drop>(
-    tokens: &mut Cursor<'_, W>,
+fn parse_list_type<W: SourceText + NameText + Drop, M: Feed>(
+    tokens: &mut Cursor<'_, W, M>,
 ) -> ParseResult<Type<W>>
     ensures gives { Gives (view_located (type_of W.characters)) result (left tokens.new) (cursor no_scalars list_type (left tokens.old)) }
     ensures shorter { OnOk result (length (left tokens.new) < length (left tokens.old)) }
@@ -101,8 +101,8 @@ fn parse_list_type<W: SourceText + NameText + Drop>(
 
 /// `"!"?`, after this type.
 #[tactic(auto, using(crate::proofs::Wrapping::wrapped_non_null), unfolding(graphql_grammar::specs::device::Productions::non_null))]
-fn parse_non_null<W: SourceText + NameText + Drop>(
-    tokens: &mut Cursor<'_, W>,
+fn parse_non_null<W: SourceText + NameText + Drop, M: Feed>(
+    tokens: &mut Cursor<'_, W, M>,
     inner: Spanning<Type<W>>,
 ) -> ParseResult<Type<W>>
     ensures gives { Gives (view_located (type_of W.characters)) result (left tokens.new) (cursor no_scalars (non_null (view_located (type_of W.characters) inner)) (left tokens.old)) }

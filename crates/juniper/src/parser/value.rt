@@ -21,7 +21,7 @@ use crate::parser::next::expect;
 use crate::tree::trees::Trees;
 use juniper_tokens::text::same_text;
 use juniper_tokens::{
-    Cursor, Kind, ParseFailure, ParseResult, Parser, ScalarToken, SourceText, Spanning,
+    Cursor, Feed, Kind, ParseFailure, ParseResult, Parser, ScalarToken, SourceText, Spanning,
 };
 use juniper_values::{InputValue, ParseScalarValue, ReadFailure, ScalarValue};
 use std::alloc::AllocError;
@@ -69,7 +69,7 @@ fn parse_value_tree<'a, S: ScalarValue>(
 /// `Value(c)`, with an error of any type that is made of a parser's.
 // A call whose builder names a lifetime and a scalar type can't name the type of the error, which has a lifetime, too.
 fn parse_value_or<S: ScalarValue, B: Builder<S>, F: Drop + From<ParseFailure>>(
-    tokens: &mut Cursor<'_, B::Name>,
+    tokens: &mut Cursor<'_, B::Name, B::Feed>,
     builder: &mut B,
     is_const: bool,
 ) -> Result<B::Value, F>
@@ -86,7 +86,7 @@ fn parse_value_or<S: ScalarValue, B: Builder<S>, F: Drop + From<ParseFailure>>(
 #[cycle(value)]
 #[tactic(auto, using(crate::proofs::Readings::value_is), unfolding(graphql_grammar::specs::device::Productions::value))]
 pub(crate) fn parse_value<S: ScalarValue, B: Builder<S>>(
-    tokens: &mut Cursor<'_, B::Name>,
+    tokens: &mut Cursor<'_, B::Name, B::Feed>,
     builder: &mut B,
     is_const: bool,
 ) -> Result<B::Value, ParseFailure>
@@ -109,7 +109,7 @@ pub(crate) fn parse_value<S: ScalarValue, B: Builder<S>>(
 #[cycle(value)]
 #[tactic(auto, using(juniper_tokens::proofs::Public::goes_further), unfolding(graphql_grammar::specs::device::Productions::list))]
 fn parse_list<S: ScalarValue, B: Builder<S>>(
-    tokens: &mut Cursor<'_, B::Name>,
+    tokens: &mut Cursor<'_, B::Name, B::Feed>,
     builder: &mut B,
     is_const: bool,
 ) -> Result<B::Value, ParseFailure>
@@ -128,7 +128,7 @@ fn parse_list<S: ScalarValue, B: Builder<S>>(
 #[cycle(value)]
 #[tactic(auto, using(juniper_tokens::proofs::Public::goes_further))]
 fn parse_items<S: ScalarValue, B: Builder<S>>(
-    tokens: &mut Cursor<'_, B::Name>,
+    tokens: &mut Cursor<'_, B::Name, B::Feed>,
     builder: &mut B,
     is_const: bool,
 ) -> Result<B::Items, ParseFailure>
@@ -148,7 +148,7 @@ fn parse_items<S: ScalarValue, B: Builder<S>>(
 #[cycle(value)]
 #[tactic(auto, using(juniper_tokens::proofs::Public::goes_further), unfolding(graphql_grammar::specs::device::Productions::object))]
 fn parse_object<S: ScalarValue, B: Builder<S>>(
-    tokens: &mut Cursor<'_, B::Name>,
+    tokens: &mut Cursor<'_, B::Name, B::Feed>,
     builder: &mut B,
     is_const: bool,
 ) -> Result<B::Value, ParseFailure>
@@ -167,7 +167,7 @@ fn parse_object<S: ScalarValue, B: Builder<S>>(
 #[cycle(value)]
 #[tactic(auto, using(juniper_tokens::proofs::Public::goes_further))]
 fn parse_fields<S: ScalarValue, B: Builder<S>>(
-    tokens: &mut Cursor<'_, B::Name>,
+    tokens: &mut Cursor<'_, B::Name, B::Feed>,
     builder: &mut B,
     is_const: bool,
 ) -> Result<B::Fields, ParseFailure>
@@ -187,7 +187,7 @@ fn parse_fields<S: ScalarValue, B: Builder<S>>(
 #[cycle(value)]
 #[tactic(auto, using(juniper_tokens::proofs::Public::goes_further), unfolding(graphql_grammar::specs::device::Productions::key_and_value))]
 fn parse_object_field<S: ScalarValue, B: Builder<S>>(
-    tokens: &mut Cursor<'_, B::Name>,
+    tokens: &mut Cursor<'_, B::Name, B::Feed>,
     builder: &mut B,
     is_const: bool,
 ) -> Result<B::ObjectField, ParseFailure>
@@ -205,7 +205,7 @@ fn parse_object_field<S: ScalarValue, B: Builder<S>>(
 /// `"$" Name`
 #[tactic(auto, unfolding(graphql_grammar::specs::device::Productions::variable))]
 fn parse_variable<S: ScalarValue, B: Builder<S>>(
-    tokens: &mut Cursor<'_, B::Name>,
+    tokens: &mut Cursor<'_, B::Name, B::Feed>,
     builder: &mut B,
 ) -> Result<B::Value, ParseFailure>
     ensures gives { Builds (B.builds_value builder.old builder.new) result (left tokens.new) (cursor (stated S.reading S.of_bool) (wants (of Dollar) (λ d. variable d.span)) (left tokens.old)) }
@@ -221,7 +221,7 @@ fn parse_variable<S: ScalarValue, B: Builder<S>>(
 /// A scalar token. Another token is refused.
 #[tactic(auto, unfolding(crate::specs::device::Steps::scalar_read))]
 fn parse_scalar<S: ScalarValue, B: Builder<S>>(
-    tokens: &mut Cursor<'_, B::Name>,
+    tokens: &mut Cursor<'_, B::Name, B::Feed>,
     builder: &mut B,
 ) -> Result<B::Value, ParseFailure>
     ensures gives { Builds (B.builds_value builder.old builder.new) result (left tokens.new) (scalar_read (stated S.reading S.of_bool) (left tokens.old)) }
@@ -245,7 +245,7 @@ fn parse_scalar<S: ScalarValue, B: Builder<S>>(
 
 /// The next token, if it is a scalar one. It is not taken.
 #[inline(always)]
-fn next_scalar<'t, W: SourceText>(tokens: &'t Cursor<'_, W>) -> Option<ScalarToken<'t>>
+fn next_scalar<'t, W: SourceText, M: Feed>(tokens: &'t Cursor<'_, W, M>) -> Option<ScalarToken<'t>>
     ensures is { MatchOption result (passes scalar_token (first_of (left tokens.now)) ≡ false) (IsScalarAt (first_of (left tokens.now))) }
     ensures ended { EndsOnce (left tokens.now) }
 {
@@ -260,7 +260,7 @@ fn next_scalar<'t, W: SourceText>(tokens: &'t Cursor<'_, W>) -> Option<ScalarTok
 
 /// A Name: `true` and `false` are scalars, `null` is null, any other name is an enum value.
 fn parse_named_value<S: ScalarValue, B: Builder<S>>(
-    tokens: &mut Cursor<'_, B::Name>,
+    tokens: &mut Cursor<'_, B::Name, B::Feed>,
     builder: &mut B,
 ) -> Result<B::Value, ParseFailure>
     ensures gives { Builds (B.builds_value builder.old builder.new) result (left tokens.new) (cursor (stated S.reading S.of_bool) (wants (of Name) (λ t. gives (record { item = by_name (stated S.reading S.of_bool) t.text; span = t.span }))) (left tokens.old)) }

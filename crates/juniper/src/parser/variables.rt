@@ -19,7 +19,7 @@ use juniper_values::ScalarValue;
 /// `("=" Value(const))?`
 #[tactic(auto, using(juniper_tokens::proofs::Public::goes_further, juniper_tokens::proofs::Public::stays), unfolding(graphql_grammar::specs::device::Productions::default))]
 fn parse_default<S: ScalarValue, B: Builder<S>>(
-    tokens: &mut Cursor<'_, B::Name>,
+    tokens: &mut Cursor<'_, B::Name, B::Feed>,
     builder: &mut B,
 ) -> Result<Option<B::Value>, ParseFailure>
     ensures gives { Builds (BuildsOptional B.builds_value builder.old builder.new) result (left tokens.new) (cursor (stated S.reading S.of_bool) default (left tokens.old)) }
@@ -36,7 +36,7 @@ fn parse_default<S: ScalarValue, B: Builder<S>>(
 /// `"$" Name ":" Type ("=" Value(const))? Directive*`
 #[tactic(auto, using(juniper_tokens::proofs::Public::goes_further), unfolding(graphql_grammar::specs::device::Productions::variable_definition))]
 fn parse_variable_definition<S: ScalarValue, B: Builder<S>>(
-    tokens: &mut Cursor<'_, B::Name>,
+    tokens: &mut Cursor<'_, B::Name, B::Feed>,
     builder: &mut B,
 ) -> Result<B::VariableDefinition, ParseFailure>
     ensures gives { Builds (B.builds_variable builder.old builder.new) result (left tokens.new) (cursor (stated S.reading S.of_bool) variable_definition (left tokens.old)) }
@@ -58,7 +58,7 @@ fn parse_variable_definition<S: ScalarValue, B: Builder<S>>(
 /// `("$" Name ":" Type ("=" Value(const))? Directive*)+ ")"`
 #[tactic(auto, using(juniper_tokens::proofs::Public::goes_further, juniper_tokens::proofs::Public::stays))]
 fn parse_variable_list<S: ScalarValue, B: Builder<S>>(
-    tokens: &mut Cursor<'_, B::Name>,
+    tokens: &mut Cursor<'_, B::Name, B::Feed>,
     builder: &mut B,
 ) -> Result<B::VariableList, ParseFailure>
     ensures gives { Builds (BuildsList B.builds_variable B.VariableList.gathered builder.old builder.new) result (left tokens.new) (cursor (stated S.reading S.of_bool) variables_inner (left tokens.old)) }
@@ -77,7 +77,7 @@ fn parse_variable_list<S: ScalarValue, B: Builder<S>>(
 #[inline(never)]
 #[tactic(auto, using(juniper_tokens::proofs::Public::goes_further, juniper_tokens::proofs::Public::some_taken), unfolding(graphql_grammar::specs::device::Productions::variables))]
 fn parse_variables<S: ScalarValue, B: Builder<S>>(
-    tokens: &mut Cursor<'_, B::Name>,
+    tokens: &mut Cursor<'_, B::Name, B::Feed>,
     builder: &mut B,
 ) -> Result<B::Variables, ParseFailure>
     ensures gives { Builds (B.builds_variables builder.old builder.new) result (left tokens.new) (cursor (stated S.reading S.of_bool) variables (left tokens.old)) }
@@ -94,7 +94,7 @@ fn parse_variables<S: ScalarValue, B: Builder<S>>(
 /// `Variables?`
 #[tactic(auto, using(juniper_tokens::proofs::Public::stays), unfolding(graphql_grammar::specs::device::Productions::optional_variables))]
 pub(crate) fn parse_optional_variables<S: ScalarValue, B: Builder<S>>(
-    tokens: &mut Cursor<'_, B::Name>,
+    tokens: &mut Cursor<'_, B::Name, B::Feed>,
     builder: &mut B,
 ) -> Result<Option<B::Variables>, ParseFailure>
     ensures gives { Builds (BuildsOptional B.builds_variables builder.old builder.new) result (left tokens.new) (cursor (stated S.reading S.of_bool) optional_variables (left tokens.old)) }

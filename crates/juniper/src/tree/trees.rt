@@ -18,7 +18,7 @@ use crate::tree::ast::{
     Selection, VariableDefinition, VariableDefinitions,
 };
 use graphql_grammar::OperationType;
-use juniper_tokens::{Span, Spanning};
+use juniper_tokens::{Listed, Span, Spanning};
 use juniper_values::{InputValue, ScalarValue, Type};
 use std::alloc::{AllocError, Global};
 use std::marker::PhantomData;
@@ -86,6 +86,8 @@ fn copied_option<'a>(name: &Option<Spanning<&'a str>>) -> Option<Spanning<&'a st
 
 impl<'a, S: ScalarValue> Builder<S> for Trees<'a> {
     type Name = &'a str;
+
+    type Feed = Listed;
 
     type Open = ();
 

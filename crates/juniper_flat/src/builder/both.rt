@@ -14,7 +14,7 @@ ghost use Rattle.juniper_flat.specs.declared.builder.both.NodesAndOutlines.{Node
 
 use crate::builder::NodeBuilder;
 use crate::scalar::SourceScalar;
-use juniper::{Builder, OperationType, Span, Spanning, Type};
+use juniper::{Builder, OperationType, Span, Spanning, Streamed, Type};
 use juniper_complexity::{DefinitionOutline, DefinitionOutlines, OutlineBuilder, PartCount};
 use std::alloc::AllocError;
 
@@ -38,6 +38,8 @@ impl<'b> Builder<SourceScalar> for NodesAndOutlines<'b> {
     ghost use Rattle.juniper_flat.specs.Builders.{field_nodes};
 
     type Name = &'b str;
+
+    type Feed = Streamed;
 
     type Open = Part;
 

@@ -15,7 +15,7 @@ ghost use Rattle.juniper.specs.Building.{a_directive, a_field, a_spread, an_inli
 
 use crate::builder::NodeBuilder;
 use crate::scalar::SourceScalar;
-use juniper::{Builder, OperationType, Span, Spanning, Type};
+use juniper::{Builder, OperationType, Span, Spanning, Streamed, Type};
 use juniper_complexity::PartCount;
 use juniper_nodes::{Label, NodeKind};
 use std::alloc::AllocError;
@@ -46,6 +46,8 @@ impl<'b> Builder<SourceScalar> for NodeBuilder<'b> {
     ghost use Rattle.juniper_flat.specs.Builders.{Adds, Opens, field_nodes};
 
     type Name = &'b str;
+
+    type Feed = Streamed;
 
     type Open = usize;
 

@@ -1,24 +1,32 @@
 //! Documents of which a builder makes what its caller wants.
-ghost use Rattle.std.specs.Prelude.{◌≡◌, ℕ, List, IfOk};
+ghost use Rattle.std.specs.Prelude.{◌≡◌, ℕ, List, true, IfOk, OnOk};
+ghost use Rattle.std.specs.Str.{chars};
 ghost use Rattle.graphql_lexical.specs.Cutting.{Cut, Lexeme};
+ghost use Rattle.graphql_grammar.specs.Tree.{Scalars};
 ghost use Rattle.graphql_grammar.specs.device.Productions.{document};
+ghost use Rattle.juniper_tokens.specs.Cursor.{Fails};
+ghost use Rattle.juniper_tokens.specs.Errors.{Error};
 ghost use Rattle.juniper_tokens.specs.Nesting.{EndsAtNesting};
-ghost use Rattle.juniper_tokens.specs.Taking.{left};
+ghost use Rattle.juniper_tokens.specs.Taking.{left, GoesOn};
 ghost use Rattle.juniper_tokens.specs.declared.error.ParseFailure.{ParseFailure as Failed};
+ghost use Rattle.juniper_values.specs.Scalar.{Content};
 ghost use Rattle.juniper.specs.Building.{BuildsList, BuildsTree};
-ghost use Rattle.juniper.specs.Limited.{FailsAs};
+ghost use Rattle.juniper.specs.Limited.{FailsAs, FailsLimited, HasFewTokens};
 ghost use Rattle.juniper.specs.Scalars.{stated};
 ghost use Rattle.juniper.specs.Within.{FailsWithin, IsWithin};
 ghost use Rattle.juniper.specs.device.Builds.{BuildsAs};
+ghost use Rattle.juniper.specs.device.Ended.{EndsWithin};
 ghost use Rattle.juniper.specs.device.Steps.{cursor};
 
 use crate::parser::builder::{Builder, Gather};
 use crate::parser::definition::parse_definition;
 use crate::parser::document::depth::{DepthFailure, depth_failure};
+use crate::parser::document::limited::{LimitFailure, Limits};
 use crate::parser::lists::expected;
 use crate::parser::next::next_is;
-use juniper_tokens::{Cursor, Kind, ParseFailure, Span};
+use juniper_tokens::{Cursor, Kind, ParseFailure, SourceText, Span, check_tokens};
 use juniper_values::ScalarValue;
+use std::alloc::Global;
 
 /// Parses the tokens of a source as a document, and has a builder build each of its parts as soon as it is read:
 /// `Document = Definition+ EndOfFile`
@@ -39,7 +47,7 @@ use juniper_values::ScalarValue;
 /// ```
 // A call whose builder names a lifetime and a scalar type can't name the type of the error, which has a lifetime, too.
 pub fn build_document<S: ScalarValue, B: Builder<S>, F: Drop + From<DepthFailure>>(
-    tokens: &mut Cursor<'_, B::Name>,
+    tokens: &mut Cursor<'_, B::Name, B::Feed>,
     deep: Option<Span>,
     builder: &mut B,
 ) -> Result<B::Definitions, F>
@@ -53,9 +61,61 @@ pub fn build_document<S: ScalarValue, B: Builder<S>, F: Drop + From<DepthFailure
     }
 }
 
+/// Parses a source as a document within limits, as `build_document` does, and keeps no list of tokens: each is read when
+/// the one before it is taken.
+///
+/// The result is that of `parse_document_source_limited` for the source, with what was built in place of the tree, and an
+/// error of any type `F` that is made of a `LimitFailure`. The builder's `Feed` is `Streamed`. After an error, or if
+/// memory runs out, some parts of a document may have been built. If the source isn't a document within the limits, it is
+/// lexed once more from its beginning, since a lexical error comes before any other. Takes no memory but what the builder
+/// takes and the words of an error, and stack in proportion to the nesting of the tokens.
+///
+/// ```
+/// let limits = Limits { depth: 200, tokens: 10_000 };
+/// let mut fields = Fields::none();
+/// build_document_source::<DefaultScalarValue, Fields, LimitFailure>(alloc, &source, limits, &mut fields)?;
+/// ```
+pub fn build_document_source<S: ScalarValue, B: Builder<S>, F: Drop + From<LimitFailure>>(
+    alloc: Global,
+    source: &B::Name,
+    limits: Limits,
+    builder: &mut B,
+) -> Result<B::Definitions, F>
+    requires { B.Feed.IS_STREAM ≡ true }
+    ensures accepted { IfOk result (BuildsTree B.builds_definition B.Definitions.gathered (stated S.reading S.of_bool) (B.Name.characters source.now) builder.old builder.new) }
+    ensures within { IfOk result (λ _. IsWithin (stated S.reading S.of_bool) limits.depth (B.Name.characters source.now)) }
+    ensures few { IfOk result (λ _. HasFewTokens limits.tokens (B.Name.characters source.now)) }
+    ensures failed { FailsAs F.from_gives result (FailsLimited (stated S.reading S.of_bool) limits.depth limits.tokens (B.Name.characters source.now)) }
+{
+    let mut tokens = Cursor::of_source(alloc, source, limits.depth, limits.tokens);
+    match build_definitions::<S, B>(&mut tokens, builder) {
+        Ok(definitions) => {
+            if tokens.is_whole() {
+                return Ok(definitions);
+            }
+            match check_tokens(alloc, source.as_str(), limits.depth, limits.tokens) {
+                Ok(_) => Ok(definitions),
+                Err(failure) => Err(F::from(LimitFailure::from(failure))),
+            }
+        }
+        Err(failure) => Err(F::from(limit_failure(alloc, source.as_str(), limits, failure))),
+    }
+}
+
+// Why a source has no tree within limits, if its tokens, as far as they are within these, gave this failure.
+#[cold]
+fn limit_failure(alloc: Global, source: &str, limits: Limits, failure: ParseFailure) -> LimitFailure
+    ensures { (scalars : Scalars Content Error) (tokens rest : List Lexeme) → EndsWithin limits.depth limits.tokens (chars source.now) tokens → Fails failure rest (cursor scalars document tokens) → FailsLimited scalars limits.depth limits.tokens (chars source.now) result }
+{
+    match check_tokens(alloc, source, limits.depth, limits.tokens) {
+        Ok(deep) => LimitFailure::from(depth_failure(deep, failure)),
+        Err(failure) => LimitFailure::from(failure),
+    }
+}
+
 /// `Definition+`, up to the end, which is left there, with an error of any type that is made of a parser's.
 pub(crate) fn build_definitions_or<S: ScalarValue, B: Builder<S>, F: Drop + From<ParseFailure>>(
-    tokens: &mut Cursor<'_, B::Name>,
+    tokens: &mut Cursor<'_, B::Name, B::Feed>,
     builder: &mut B,
 ) -> Result<B::Definitions, F>
     ensures { BuildsAs F.from_gives (BuildsList B.builds_definition B.Definitions.gathered builder.old builder.new) result (cursor (stated S.reading S.of_bool) document (left tokens.old)) }
@@ -65,10 +125,11 @@ pub(crate) fn build_definitions_or<S: ScalarValue, B: Builder<S>, F: Drop + From
 
 /// `Definition+`, up to the end, which is left there.
 fn build_definitions<S: ScalarValue, B: Builder<S>>(
-    tokens: &mut Cursor<'_, B::Name>,
+    tokens: &mut Cursor<'_, B::Name, B::Feed>,
     builder: &mut B,
 ) -> Result<B::Definitions, ParseFailure>
-    ensures { BuildsAs (λ (a b : Failed). b ≡ a) (BuildsList B.builds_definition B.Definitions.gathered builder.old builder.new) result (cursor (stated S.reading S.of_bool) document (left tokens.old)) }
+    ensures gives { BuildsAs (λ (a b : Failed). b ≡ a) (BuildsList B.builds_definition B.Definitions.gathered builder.old builder.new) result (cursor (stated S.reading S.of_bool) document (left tokens.old)) }
+    ensures on { OnOk result (GoesOn tokens.old tokens.new) }
 {
     let mut definitions = B::Definitions::none(tokens.allocator());
     loop {

@@ -1,38 +1,69 @@
 use Rattle.std.proofs.Common.{ap, ◌∙◌, ◌<◌, sym, subst}
 use Rattle.graphql_lexical.specs.Place.{Place}
 use Rattle.juniper_tokens.specs.Taking.{Taking}
-use Rattle.juniper_tokens.proofs.Taking.{within_tokens, seen_ended, last_is_range, seen_last, are_starts, last_within}
+use Rattle.juniper_tokens.proofs.Feeds.{ended_seen, of_records, stream_last}
+use Rattle.juniper_tokens.proofs.Taking.{within_tokens, last_is_range, seen_last, are_starts, last_within}
 use Rattle.juniper_tokens.proofs.cursor.Cursor.span_from.Goals as goal
 
-pub place_back-requires-clause-starts : goal.place_back-requires-clause-starts
-place_back-requires-clause-starts g c =
+pub place_back-end-requires-clause-starts : goal.place_back-end-requires-clause-starts
+place_back-end-requires-clause-starts g c =
     let here = c.self.inside in
-    are_starts (g.W.SourceText.characters here.source) here.ranges.now here.starts.now here.taken here.lines c.self.invariant
-    c.args.self.now c.self.view_is
+    let source = g.W.SourceText.characters here.source in
+    let it = of_records source g.M.Feed.IS_STREAM here.records here.stream here.taken here.next here.last_end
+    c.self.invariant c.args.self.now c.self.view_is (sym c.IS_STREAM.ensures ∙ c.if-IS_STREAM.false) in
+    are_starts source here.records.ranges.now here.records.starts.now here.taken here.records.lines it.0
+    c.args.self.now it.1
 
-pub place_back-requires-clause-before : goal.place_back-requires-clause-before
-place_back-requires-clause-before g c =
+pub place_back-end-requires-clause-before : goal.place_back-end-requires-clause-before
+place_back-end-requires-clause-before g c =
     let here = c.self.inside in
-    let some : 0 < here.taken = subst (λ (t : Taking). 0 < t.taken) (sym c.self.view_is) c.requires in
-    last_within (g.W.SourceText.characters here.source) here.ranges.now here.starts.now here.taken here.lines c.self.invariant
-    c.args.self.now c.self.view_is _ some
+    let source = g.W.SourceText.characters here.source in
+    let it = of_records source g.M.Feed.IS_STREAM here.records here.stream here.taken here.next here.last_end
+    c.self.invariant c.args.self.now c.self.view_is (sym c.IS_STREAM.ensures ∙ c.if-IS_STREAM.false) in
+    let some : 0 < here.taken = subst (λ (t : Taking). 0 < t.taken) (sym it.1) c.requires in
+    last_within source here.records.ranges.now here.records.starts.now here.taken here.records.lines it.0
+    c.args.self.now it.1 _ some
 
-pub place_back-requires-clause-from : goal.place_back-requires-clause-from
-place_back-requires-clause-from g c = c.self.invariant.reaches _
-
-pub returns-clause-span : goal.returns-clause-span
-returns-clause-span g c =
+pub place_back-end-requires-clause-from : goal.place_back-end-requires-clause-from
+place_back-end-requires-clause-from g c =
     let here = c.self.inside in
-    let range = last_is_range (g.W.SourceText.characters here.source) here.ranges.now here.starts.now here.taken c.self.invariant.left
-    c.args.self.now c.self.view_is _ in
+    let source = g.W.SourceText.characters here.source in
+    let it = of_records source g.M.Feed.IS_STREAM here.records here.stream here.taken here.next here.last_end
+    c.self.invariant c.args.self.now c.self.view_is (sym c.IS_STREAM.ensures ∙ c.if-IS_STREAM.false) in
+    it.0.reaches _
+
+pub returns-then-IS_STREAM-clause-span : goal.returns-then-IS_STREAM-clause-span
+returns-then-IS_STREAM-clause-span g c =
+    let here = c.self.inside in
+    let source = g.W.SourceText.characters here.source in
     ap (λ (p : Place). record { start = c.args.start; end = p })
-    (c.place_back.ensures (g.W.SourceText.characters here.source) c.self.invariant.left.lines_are range.within
-    ∙ seen_last (g.W.SourceText.characters here.source) here.ranges.now here.starts.now here.taken c.self.invariant.left c.args.self.now
-    c.self.view_is _)
+    (stream_last source g.M.Feed.IS_STREAM here.records here.stream here.taken here.next here.last_end
+    c.self.invariant c.args.self.now c.self.view_is (sym c.IS_STREAM.ensures ∙ c.if-IS_STREAM.true) c.requires)
 
-pub returns-clause-within : goal.returns-clause-within
-returns-clause-within g c =
+pub returns-else-IS_STREAM-clause-span : goal.returns-else-IS_STREAM-clause-span
+returns-else-IS_STREAM-clause-span g c =
     let here = c.self.inside in
-    within_tokens c.args.self.now
-    (seen_ended (g.W.SourceText.characters here.source) here.ranges.now here.starts.now here.taken c.self.invariant.left c.args.self.now
-    c.self.view_is)
+    let source = g.W.SourceText.characters here.source in
+    let it = of_records source g.M.Feed.IS_STREAM here.records here.stream here.taken here.next here.last_end
+    c.self.invariant c.args.self.now c.self.view_is (sym c.IS_STREAM.ensures ∙ c.if-IS_STREAM.false) in
+    let range = last_is_range source here.records.ranges.now here.records.starts.now here.taken it.0.left
+    c.args.self.now it.1 _ in
+    ap (λ (p : Place). record { start = c.args.start; end = p })
+    (c.place_back-end.ensures source it.0.left.lines_are range.within
+    ∙ seen_last source here.records.ranges.now here.records.starts.now here.taken it.0.left c.args.self.now it.1 _)
+
+pub returns-then-IS_STREAM-clause-within : goal.returns-then-IS_STREAM-clause-within
+returns-then-IS_STREAM-clause-within g c =
+    let here = c.self.inside in
+    let source = g.W.SourceText.characters here.source in
+    within_tokens c.args.self.now (ended_seen source g.M.Feed.IS_STREAM here.records here.stream here.taken here.next
+    here.last_end
+    c.self.invariant c.args.self.now c.self.view_is)
+
+pub returns-else-IS_STREAM-clause-within : goal.returns-else-IS_STREAM-clause-within
+returns-else-IS_STREAM-clause-within g c =
+    let here = c.self.inside in
+    let source = g.W.SourceText.characters here.source in
+    within_tokens c.args.self.now (ended_seen source g.M.Feed.IS_STREAM here.records here.stream here.taken here.next
+    here.last_end
+    c.self.invariant c.args.self.now c.self.view_is)

@@ -1,6 +1,7 @@
 use Rattle.std.proofs.Common.{◌∙◌, sym, refl, drop, [], ◌∷◌, ◌++◌}
 use Rattle.std.proofs.lemmas.Result.{err_from_is_err_and}
 use Rattle.juniper_tokens.specs.Taking.{left}
+use Rattle.juniper_tokens.proofs.Public.{goes_further, stays}
 use Rattle.juniper.proofs.Building.{each_more}
 use Rattle.juniper.proofs.Documents.{go_on, end, fail}
 use Rattle.juniper.proofs.Loops.{before_none}
@@ -11,10 +12,11 @@ loop-definitions-init g c = record {
   parts = [];
   so_far = before_none _;
   built = rw c.none-definitions.ensures refl;
+  goes = stays _;
 }
 
-pub returns-in_err-definition : goal.returns-in_err-definition
-returns-in_err-definition g c =
+pub returns-in_err-definition-clause-gives : goal.returns-in_err-definition-clause-gives
+returns-in_err-definition-clause-gives g c =
     let p = err_from_is_err_and c.from_residual.result c.from_residual.ensures.1 in
     rw (p.1, p.2) (
       left c.parse_definition.new.tokens,
@@ -25,8 +27,8 @@ returns-in_err-definition g c =
       ),
     )
 
-pub returns-then-is_last : goal.returns-then-is_last
-returns-then-is_last g c = let made = c.in_ok-definition.ensures.gives in (
+pub returns-then-is_last-clause-gives : goal.returns-then-is_last-clause-gives
+returns-then-is_last-clause-gives g c = let made = c.in_ok-definition.ensures.gives in (
   drop 1 (left c.parse_definition.new.tokens),
   record {
     part = c.loop-definitions.invariant.parts ++ made.part ∷ [];
@@ -37,6 +39,9 @@ returns-then-is_last g c = let made = c.in_ok-definition.ensures.gives in (
   },
 )
 
+pub returns-then-is_last-clause-on : goal.returns-then-is_last-clause-on
+returns-then-is_last-clause-on g c = goes_further _ _ _ c.loop-definitions.invariant.goes c.in_ok-definition.ensures.on
+
 pub loop-definitions-preserved : goal.loop-definitions-preserved
 loop-definitions-preserved g c = let made = c.in_ok-definition.ensures.gives in record {
   parts = c.loop-definitions.invariant.parts ++ made.part ∷ [];
@@ -44,4 +49,5 @@ loop-definitions-preserved g c = let made = c.in_ok-definition.ensures.gives in 
       (sym c.next_is-is_last.ensures.is ∙ c.if-is_last.false);
   built = rw c.in_ok-gather.ensures
       (each_more g.B.Builder.builds_definition _ _ _ _ _ _ _ c.loop-definitions.invariant.built made.is_built);
+  goes = goes_further _ _ _ c.loop-definitions.invariant.goes c.in_ok-definition.ensures.on;
 }

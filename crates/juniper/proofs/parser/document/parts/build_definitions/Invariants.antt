@@ -1,7 +1,7 @@
 use Rattle.std.proofs.Common.{◌≡◌, List, length}
 use Rattle.graphql_grammar.specs.Tree.{Definition}
 use Rattle.graphql_grammar.specs.device.Productions.{document}
-use Rattle.juniper_tokens.specs.Taking.{left}
+use Rattle.juniper_tokens.specs.Taking.{left, GoesOn}
 use Rattle.juniper_values.specs.Scalar.{Content}
 use Rattle.juniper.specs.Building.{BuildsList}
 use Rattle.juniper.specs.Scalars.{stated}
@@ -15,6 +15,7 @@ invariant-loop-definitions g l =
       parts : List (Definition Content);
       so_far : before_others parts (read (left l.tokens)) ≡ read (left l.fn.tokens);
       built : BuildsList g.B.Builder.builds_definition g.B.Definitions.Gather.gathered l.fn.builder l.builder l.definitions parts;
+      goes : GoesOn l.fn.tokens l.tokens;
     }
 
 abbrev pub decreases-loop-definitions : goal.decreases-loop-definitions
