@@ -153,11 +153,23 @@ def doubling(count: int) -> Row:
     return Row(0, "complexities", text.encode(), [f"0: {fields} 0 0 {fields} {depth}"])
 
 
+def chain(count: int) -> List[Row]:
+    """Two documents of so many fragments, of which each is a field with the next one in it. In the first the last one is a field in
+    a field, and in the other it spreads another: a cycle."""
+    text = "{ ...F1 }" + "".join(f" fragment F{i} on T {{ a {{ ...F{i + 1} }} }}" for i in range(1, count))
+    text += f" fragment F{count} on T {{ a {{ "
+    whole = Row(0, "complexities", (text + "b } }").encode(), [f"0: {count + 1} 0 0 1 {count + 1}"])
+    start, end = len(text), len(text) + len("...F7")
+    around = Row(0, "complexities", (text + "...F7 } }").encode(), [f"{start}:0:{start}-{end}:0:{end} Cycle"])
+    return [whole, around]
+
+
 def made(count: int) -> Iterator[Row]:
-    """So many made documents, and those whose fields are too many to go through."""
+    """So many made documents, those whose fields are too many to go through, and chains of fragments."""
     for number in range(count):
         writer = Writer(number)
         definitions = writer.definitions()
         yield Row(number, "complexities", writer.text.encode(), complexities(definitions))
-    for fragments in (60, 62, 63, 64, 70):
+    for fragments in (0, 1, 60, 62, 63, 64, 70):
         yield doubling(fragments)
+    yield from chain(100_000)

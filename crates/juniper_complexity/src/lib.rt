@@ -9,8 +9,6 @@ mod operations;
 mod outline;
 mod outline_builder;
 mod resolving;
-#[cfg(test)]
-mod tests;
 mod walk;
 
 pub use complexity::{Complexity, ComplexityFailure};
