@@ -1,31 +1,30 @@
 -- A source within limits, of which no token is kept.
-use Rattle.std.proofs.Common.{◌≡◌, ℕ, ◌+◌, ◌-◌, ◌<◌, ◌≤◌, inl, inr, true, false, List, [], ◌∷◌, ◌++◌, length, drop}
+use Rattle.std.proofs.Common.{◌≡◌, ℕ, ◌+◌, ◌<◌, ◌≤◌, inl, inr, true, false, List, [], ◌∷◌, ◌++◌, length, drop}
 use Rattle.std.proofs.Common.{Some, None, Ok, refl, sym, ap, ap₂, subst, ◌∙◌, arith, append_assoc, length-append}
-use Rattle.std.proofs.Common.{length-drop}
 use Rattle.std.specs.Prelude.{Option, pos, ◌-ℤ◌, ◌<ℤ◌, ◌≤ℤ◌}
 use Rattle.std.proofs.lemmas.Bool.{cases_Bool}
 use Rattle.std.proofs.lemmas.Int.{ints}
-use Rattle.std.proofs.lemmas.List.{length-map}
+use Rattle.std.proofs.lemmas.List.{length-map, map-append}
 use Rattle.graphql_lexical.specs.declared.kind.Kind.{Kind}
 use Rattle.graphql_lexical.specs.declared.kind.Kind.TheVariants.{EndOfFile}
 use Rattle.graphql_lexical.specs.Kinds.{same_kind}
 use Rattle.graphql_lexical.specs.Cutting.{Cut, Lexeme}
 use Rattle.graphql_lexical.specs.Nesting.{opened, closed, nesting, end_after, ended_by, IsFirstDeeper}
+use Rattle.graphql_lexical.specs.Place.{Place, place}
 use Rattle.graphql_lexical.specs.device.Streams.{Tokens}
 use Rattle.graphql_lexical.proofs.Public.{after_deeper, by_places, by_texts, crossed, one_deep, cut_streams, whole_cut}
 use Rattle.graphql_lexical.proofs.Public.{DeeperFrom, ShallowFrom, Streams}
+use Rattle.juniper_tokens.specs.declared.check.Brackets.{Brackets}
 use Rattle.juniper_tokens.specs.declared.token_range.TokenRange.{TokenRange}
 use Rattle.juniper_tokens.specs.declared.span.Span.{Span}
-use Rattle.juniper_tokens.specs.Spans.{view_span}
-use Rattle.juniper_tokens.specs.Cursor.{EndsOnce, first_of, kind_at}
 use Rattle.juniper_tokens.specs.Lexing.{LexerState, items_left}
 use Rattle.juniper_tokens.specs.Counting.{HasFew}
 use Rattle.juniper_tokens.specs.Gathering.{HasLeft}
 use Rattle.juniper_tokens.specs.Nesting.{EndsAtNesting, IsShallow}
-use Rattle.juniper_tokens.specs.Taking.{Taking, left, next_taken}
+use Rattle.juniper_tokens.specs.device.Nested.{AreNested, IsOfRange}
 use Rattle.juniper_tokens.specs.device.Ranges.{range_lexeme, range_lexemes, range_steps}
-use Rattle.juniper_tokens.specs.device.Feeds.{taking_of}
 use Rattle.juniper_tokens.specs.device.Streams.{streamed}
+use Rattle.juniper_tokens.proofs.BracketCounts.{none_nested, ends_nested}
 use Rattle.juniper_tokens.proofs.Gathering.{GatheredRanges, none_gathered, ranges_more, gathered_cut}
 use Rattle.juniper_tokens.proofs.Lexing.{ranges_fewer}
 use Rattle.juniper_tokens.proofs.TokenLimits.{cut_few}
@@ -71,57 +70,75 @@ module _ (s t u : LexerState) (count most : ℕ) (h : Passes s t count most) (r 
     fewer = omega (arith, h.fewer, ranges_fewer t (Ok r) u step);
   }
 
-  pub all_passed : r.kind ≡ EndOfFile → (lexemes : List Lexeme) × HasLeft s lexemes × (length lexemes ≤ most + 1)
-  all_passed end = (
-    range_lexemes s.source (h.ranges ++ r ∷ []),
-    gathered_cut s (range_lexemes s.source (h.ranges ++ r ∷ [])) u
-        (ranges_more s h.ranges t u r h.gathered step).gathered (step.2.ends.1 end),
-    omega (
-      arith,
-      length-map (h.ranges ++ r ∷ []) (range_lexeme s.source),
-      length-append h.ranges (r ∷ []),
-      h.count_is,
-      h.few,
-    ),
-  )
-
 -- a lexer that goes on has an item left
 pub some_items : (s t : LexerState) (count most : ℕ) → Passes s t count most → count < items_left s
 some_items s t count most h =
     let one : items_left t ≡ length (drop t.index t.source) + 1 = rw h.going refl in omega (arith, h.fewer, one)
 
+-- ---- their brackets, too
+
+-- The same, with what is known of the brackets of the tokens between the two states.
+pub record Checks (s t : LexerState) (count most depth : ℕ) (brackets : Brackets) : Type 0 where
+  pub passes : Passes s t count most
+  pub nested : AreNested depth (range_lexemes s.source passes.ranges) brackets
+  pub fewer : brackets.opened + brackets.closed ≤ count
+
+pub none_checked : (s : LexerState) (most depth : ℕ) → s.ended ≡ false
+    → Checks s s 0 most depth (record { opened = 0; closed = 0; deep = None })
+unfolding none_passed
+none_checked s most depth going = record {
+  passes = none_passed s most going;
+  nested = none_nested depth;
+  fewer = omega arith;
+}
+
+module _ (s t u : LexerState) (count most depth : ℕ) (brackets : Brackets)
+    (h : Checks s t count most depth brackets) (r : TokenRange) (step : range_steps t (Some (Ok r)) u) where
+  more : GatheredRanges s (h.passes.ranges ++ r ∷ []) u
+  more = ranges_more s h.passes.ranges t u r h.passes.gathered step
+
+  of_range : IsOfRange u r (range_lexeme s.source r)
+  of_range =
+      let source : s.source ≡ u.source = sym more.gathered.source in (
+        refl,
+        ap₂ (λ (x y : Place). record { start = x; end = y })
+            (ap (λ (x : List ℕ). place x r.start.characters) source)
+            (ap₂ place source (sym step.2.to)),
+      )
+
+  pub one_checked : same_kind r.kind EndOfFile ≡ false → count < most → (new : Brackets)
+      → ((before : List Lexeme) (x : Lexeme) → IsOfRange u r x → AreNested depth before brackets
+      → AreNested depth (before ++ x ∷ []) new)
+      → new.opened + new.closed ≤ brackets.opened + brackets.closed + 1 → Checks s u (count + 1) most depth new
+  unfolding one_passed
+  one_checked other room new read few = record {
+    passes = one_passed s t u count most h.passes r step other room;
+    nested =
+        subst (λ (ts : List Lexeme). AreNested depth ts new)
+        (sym (map-append (range_lexeme s.source) h.passes.ranges (r ∷ [])))
+        (read (range_lexemes s.source h.passes.ranges) (range_lexeme s.source r) of_range h.nested);
+    fewer = omega (arith, few, h.fewer);
+  }
+
+  pub all_checked : r.kind ≡ EndOfFile → (lexemes : List Lexeme) × HasLeft s lexemes × (length lexemes ≤ most + 1)
+      × ((new : List Lexeme) × EndsAtNesting depth lexemes brackets.deep new)
+  all_checked end = (
+    range_lexemes s.source (h.passes.ranges ++ r ∷ []),
+    gathered_cut s (range_lexemes s.source (h.passes.ranges ++ r ∷ [])) u more.gathered (step.2.ends.1 end),
+    omega (
+      arith,
+      length-map (h.passes.ranges ++ r ∷ []) (range_lexeme s.source),
+      length-append h.passes.ranges (r ∷ []),
+      h.passes.count_is,
+      h.passes.few,
+    ),
+    subst (λ (ts : List Lexeme). (new : List Lexeme) × EndsAtNesting depth ts brackets.deep new)
+        (sym (map-append (range_lexeme s.source) h.passes.ranges (r ∷ [])))
+        (ends_nested depth (range_lexemes s.source h.passes.ranges) (range_lexeme s.source r) brackets.opened
+        brackets.closed brackets.deep h.nested end),
+  )
+
 -- ---- tokens are streamed
-
--- Of all tokens some were taken, of which the last one has this span.
-pub record Follows (all : Tokens) (t : Taking) (last : Span) : Type 0 where
-  pub tokens_are : t.tokens ≡ all.tokens
-  pub whole_is : t.whole ≡ all.whole
-  pub last_is : 0 < t.taken → view_span last ≡ (first_of (drop (t.taken - 1) t.tokens)).span
-
-pub begins : (all : Tokens) (t : Taking) (last : Span) → t ≡ taking_of all 0 → Follows all t last
-begins all t last e = subst (λ (x : Taking). Follows all x last) (sym e)
-    (record { tokens_are = refl; whole_is = refl; last_is = λ some. absurd (omega (arith, some)) })
-
-pub follows_more : (all : Tokens) (old new : Taking) (last next : Span) → Follows all old last → new ≡ next_taken old
-    → view_span next ≡ (first_of (left old)).span → Follows all new next
-follows_more all old new last next h e s = subst (λ (t : Taking). Follows all t next) (sym e) (record {
-  tokens_are = h.tokens_are;
-  whole_is = h.whole_is;
-  last_is = λ some. s ∙ ap (λ (n : ℕ). (first_of (drop n old.tokens)).span) (sym back);
-})
-  where
-    back : (old.taken + 1) - 1 ≡ old.taken
-    back = omega arith
-
-one_left : (ts : List Lexeme) → EndsOnce ts → same_kind (kind_at ts) EndOfFile ≡ true → length ts ≡ 1
-one_left [] h e = absurd h
-one_left (t ∷ []) h e = refl
-one_left (t ∷ u ∷ ts) h e = let z : true ≡ false = sym e ∙ h.0 in absurd (cc z)
-
-first_past : (before : List Lexeme) (x : Lexeme) (after : List Lexeme)
-    → first_of (drop (length before) (before ++ x ∷ after)) ≡ x
-first_past [] x after = refl
-first_past (b ∷ bs) x after = first_past bs x after
 
 deep_counts : (depth o c : ℕ) → depth + (0 + c) < 0 + o → pos depth <ℤ (pos o -ℤ pos c)
 deep_counts depth o c h = omega (arith, ints)
@@ -208,43 +225,3 @@ module _ (source : List ℕ) (depth most : ℕ) where
       by_streams (Some span) (before, x, d, at, e) (inr (front, y, g, same)) =
           let one = one_first depth lexemes front before y x (first_deeper depth lexemes front y g) d in
           same ∙ ap₂ ended_by one.0 one.1 ∙ sym e
-
-  module _ (lexemes : List Lexeme) (cut : Cut source lexemes) (few : length lexemes ≤ most + 1) (t : Taking)
-      (last : Span)
-      (h : Follows all t last) (ended : EndsOnce (left t)) (end : same_kind (kind_at (left t)) EndOfFile ≡ true) where
-    last_there : (before : List Lexeme) (x : Lexeme) → all.tokens ≡ ended_by before x → view_span last ≡ x.span
-    last_there before x e =
-        let tokens = h.tokens_are ∙ e in
-        let count : t.taken ≡ length before + 1 = omega (
-          arith,
-          one_left (left t) ended end,
-          length-drop t.taken t.tokens,
-          ap length tokens,
-          length-append before (x ∷ end_after x ∷ []),
-        ) in
-        let at : t.taken - 1 ≡ length before = omega (arith, count) in
-        h.last_is (omega (arith, count))
-        ∙ ap (λ (n : ℕ). (first_of (drop n t.tokens)).span) at
-        ∙ ap (λ (ts : List Lexeme). (first_of (drop (length before) ts)).span) tokens
-        ∙ ap (λ (y : Lexeme). y.span) (first_past before x (end_after x ∷ []))
-
-    pub deep_there : t.whole ≡ false → EndsAtNesting depth lexemes (Some last) all.tokens
-    deep_there short = by_streams (streams_cut lexemes cut few)
-      where
-        by_streams : Streams depth 0 0 lexemes all → EndsAtNesting depth lexemes (Some last) all.tokens
-        by_streams (inl (shallow, e)) =
-            let z : true ≡ false = sym (ap (λ (ts : Tokens). ts.whole) e) ∙ (sym h.whole_is ∙ short) in absurd (cc z)
-        by_streams (inr (before, x, d, e)) = (
-          before,
-          x,
-          first_deeper depth lexemes before x d,
-          last_there before x e,
-          e,
-        )
-
-    pub none_there : t.whole ≡ true → EndsAtNesting depth lexemes None all.tokens
-    none_there whole = by_streams (streams_cut lexemes cut few)
-      where
-        by_streams : Streams depth 0 0 lexemes all → EndsAtNesting depth lexemes None all.tokens
-        by_streams (inl (shallow, e)) = (shallow_all depth lexemes shallow, ap (λ (ts : Tokens). ts.tokens) e)
-        by_streams (inr (before, x, d, e)) = absurd (none_deep (sym h.whole_is ∙ whole) lexemes before x d e)

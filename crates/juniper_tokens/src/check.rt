@@ -1,5 +1,5 @@
 //! A source within limits, of which no token is kept.
-ghost use Rattle.std.specs.Prelude.{◌≡◌, ◌+◌, ◌<◌, ◌≤◌, ◌^◌, [], List, length, IfOk, OnOk};
+ghost use Rattle.std.specs.Prelude.{◌≡◌, ◌+◌, ◌<◌, ◌≤◌, ◌^◌, [], ◌∷◌, ◌++◌, List, length, IfOk};
 ghost use Rattle.std.specs.Str.{chars};
 ghost use Rattle.graphql_lexical.specs.Cutting.{Cut, Lexeme};
 ghost use Rattle.juniper_tokens.specs.Counting.{HasFew, HasMore, IfCounted, IfFaultWithin, IfTooMany};
@@ -8,13 +8,13 @@ ghost use Rattle.juniper_tokens.specs.Gathering.{BreaksOff};
 ghost use Rattle.juniper_tokens.specs.Lexing.{started};
 ghost use Rattle.juniper_tokens.specs.Nesting.{EndsAtNesting};
 ghost use Rattle.juniper_tokens.specs.Spans.{view_span};
-ghost use Rattle.juniper_tokens.specs.device.Streams.{streamed};
+ghost use Rattle.juniper_tokens.specs.device.Nested.{AreNested, IsOfRange};
 
-use crate::cursor::Cursor;
 use crate::error::LimitedLexFailure;
-use crate::feed::Streamed;
 use crate::lexer::Lexer;
+use crate::nesting::{is_closing, is_opening};
 use crate::span::Span;
+use crate::token_range::TokenRange;
 use graphql_lexical::Kind;
 use std::alloc::Global;
 
@@ -36,43 +36,54 @@ pub fn check_tokens(
     ensures many { IfTooMany result (λ span. HasMore [] (chars source.now) most (view_span span)) }
     ensures limited { IfTooMany result (λ _. most < 2 ^ 63) }
 {
-    count_tokens(alloc, source, most)?;
-    Ok(first_deep(alloc, source, depth, most))
-}
-
-// Reads all tokens of a source, if they are no more than `most` besides the end.
-fn count_tokens(alloc: Global, source: &str, most: usize) -> Result<(), LimitedLexFailure>
-    ensures cut { OnOk result ((lexemes : List Lexeme) × Cut (chars source.now) lexemes × (length lexemes ≤ most + 1)) }
-    ensures fault { IfFaultWithin result (λ fault. BreaksOff (started (chars source.now)) (view_lexer_error fault.item) fault.span.start) }
-    ensures zero_width { IfFaultWithin result (λ fault. fault.span.end ≡ fault.span.start) }
-    ensures few { IfCounted result (HasFew [] (chars source.now) most) }
-    ensures many { IfTooMany result (λ span. HasMore [] (chars source.now) most (view_span span)) }
-    ensures limited { IfTooMany result (λ _. most < 2 ^ 63) }
-{
     let mut lexer = Lexer::new(alloc, source);
     let mut count = 0_usize;
+    let mut brackets = Brackets {
+        opened: 0,
+        closed: 0,
+        deep: None,
+    };
     loop {
         let range = lexer.next_range()?;
         if range.kind == Kind::EndOfFile {
-            return Ok(());
+            return Ok(brackets.deep);
         }
         if count >= most {
             let span = lexer.span_from(range.start.characters);
             return Err(LimitedLexFailure::TooMany(span));
         }
+        brackets.read(range, &lexer, depth);
         count += 1;
     }
 }
 
-// The span of the first token at which more than `depth` brackets are open, of no more than `most` tokens besides the end.
-fn first_deep(alloc: Global, source: &str, depth: usize, most: usize) -> Option<Span>
-    ensures { (lexemes : List Lexeme) → Cut (chars source.now) lexemes → length lexemes ≤ most + 1 → EndsAtNesting depth lexemes result (streamed (chars source.now) depth most).tokens }
-{
-    let mut tokens = Cursor::<&str, Streamed>::of_source(alloc, &source, depth, most);
-    let mut last = tokens.span();
-    while tokens.kind() != Kind::EndOfFile {
-        last = tokens.span();
-        tokens.advance();
+// The brackets of tokens that were read, up to the first one that is nested too deep, and the span of that one.
+#[derive(Drop)]
+struct Brackets {
+    opened: usize,
+    closed: usize,
+    deep: Option<Span>,
+}
+
+impl Brackets {
+    // Reads the token of a range, at whose end the lexer stands.
+    #[inline(always)]
+    fn read(&mut self, range: TokenRange, lexer: &Lexer<'_>, depth: usize)
+        requires before { range.start.characters ≤ lexer.now.index }
+        requires room { self.old.opened + self.old.closed < 2 ^ 63 }
+        ensures nested { (before : List Lexeme) (t : Lexeme) → IsOfRange lexer.now range t → AreNested depth before self.old → AreNested depth (before ++ t ∷ []) self.new }
+        ensures more { self.new.opened + self.new.closed ≤ self.old.opened + self.old.closed + 1 }
+    {
+        if self.deep.is_some() {
+            return;
+        }
+        if is_opening(range.kind) {
+            self.opened += 1;
+            if self.opened.saturating_sub(self.closed) > depth {
+                self.deep = Some(lexer.span_from(range.start.characters));
+            }
+        } else if is_closing(range.kind) {
+            self.closed += 1;
+        }
     }
-    if tokens.is_whole() { None } else { Some(last) }
 }

@@ -1,10 +1,10 @@
 use Rattle.std.specs.Str.{chars}
 use Rattle.juniper_tokens.specs.Lexing.{started, items_left}
-use Rattle.juniper_tokens.proofs.Checking.{Passes}
-use Rattle.juniper_tokens.proofs.check.count_tokens.Given as goal
+use Rattle.juniper_tokens.proofs.Checking.{Checks}
+use Rattle.juniper_tokens.proofs.check.check_tokens.Given as goal
 
 abbrev pub invariant-loop-range : goal.invariant-loop-range
-invariant-loop-range l = Passes (started (chars l.source)) l.lexer l.count l.most
+invariant-loop-range l = Checks (started (chars l.source)) l.lexer l.count l.most l.depth l.brackets
 
 abbrev pub decreases-loop-range : goal.decreases-loop-range
 decreases-loop-range l = items_left l.lexer
