@@ -5,7 +5,8 @@ use Rattle.graphql_lexical.specs.declared.kind.Kind.{Kind}
 use Rattle.graphql_lexical.specs.Kinds.{Spelling, Names, Strings, BlockStrings, Floats, Ints, Fixed, NoText, spelling}
 use Rattle.juniper_values.specs.Text.{Text}
 use Rattle.juniper_values.specs.Scalar.{Content, integer, text, boolean, custom, Reading}
-use Rattle.juniper_values.specs.Default.{default_content, default_reading, default_shown}
+use Rattle.juniper_values.specs.Default.{default_content, default_reading}
+use Rattle.juniper_values.specs.BesideDefault.{int_beside, str_beside, string_beside, shown_beside}
 use Rattle.juniper_values.specs.View.{text_of}
 use Rattle.juniper_nodes.specs.declared.literal.Literal.{Literal}
 use Rattle.juniper_nodes.specs.declared.literal.Literal.TheVariants as scalar
@@ -61,10 +62,7 @@ own_text (kind ∷ ns) =
     else characters ns
 
 abbrev pub literal_shown : Content → Text
-literal_shown (integer n) = default_shown (integer n)
-literal_shown (text t) = t
-literal_shown (boolean b) = default_shown (boolean b)
-literal_shown (custom ns) = own_text ns
+literal_shown = shown_beside own_text
 
 -- the number of 32 bits
 abbrev pub number_of : List ℤ → Option ℤ
@@ -73,10 +71,7 @@ number_of (kind ∷ []) = None
 number_of (kind ∷ n ∷ ns) = if int_eq kind (pos 0) then Some n else None
 
 abbrev pub int_in : Content → Option ℤ
-int_in (integer n) = Some n
-int_in (text t) = None
-int_in (boolean b) = None
-int_in (custom ns) = number_of ns
+int_in = int_beside number_of
 
 -- the text that a String means
 abbrev pub meaning_of : List ℤ → Option Text
@@ -84,17 +79,11 @@ meaning_of [] = None
 meaning_of (kind ∷ ns) = if is_string kind then Some (meaning ns) else None
 
 abbrev pub str_in : Content → Option Text
-str_in (integer n) = None
-str_in (text t) = Some t
-str_in (boolean b) = None
-str_in (custom ns) = meaning_of ns
+str_in = str_beside meaning_of
 
 -- the same, and a number's text
 abbrev pub string_in : Content → Option Text
-string_in (integer n) = None
-string_in (text t) = Some t
-string_in (boolean b) = None
-string_in (custom ns) = Some (own_text ns)
+string_in = string_beside own_text
 
 -- ---- readings
 

@@ -11,7 +11,8 @@ ghost use Rattle.juniper_values.specs.View.{text_of};
 ghost use Rattle.juniper_nodes.specs.Literal.{literal_content, literal_shown, int_reading, string_reading, of_string, of_block};
 
 use juniper::{
-    DefaultScalarValue, ParseScalarResult, ParseScalarValue, ReadFailure, ScalarToken, ScalarValue,
+    BesideDefault, DefaultScalarValue, Held, ParseScalarResult, ParseScalarValue, ReadFailure,
+    ScalarToken, ScalarValue,
 };
 use juniper_tokens::text::{copied, same_string, write_text};
 use std::alloc::{AllocError, Global};
@@ -180,101 +181,71 @@ fn copied_string(alloc: Global, string: &StringLiteral) -> Result<StringLiteral,
     })
 }
 
-impl ScalarValue for Literal {
+impl BesideDefault for Literal {
     ghost use Rattle.std.specs.Prelude.{refl};
-    ghost use Rattle.juniper_values.specs.Scalar.{boolean, integer, text};
-    ghost use Rattle.juniper_values.specs.Default.{bool_in};
     ghost use Rattle.juniper_values.specs.laws.ScalarLaws.{same_content-Decides};
-    ghost use Rattle.juniper_nodes.specs.Literal.{int_in, str_in, string_in};
-    ghost use Rattle.juniper_nodes.specs.laws.LiteralLaws.{literal-has_form, lent-is_string};
+    ghost use Rattle.juniper_nodes.specs.Literal.{number_of, meaning_of, own_text};
+    ghost use Rattle.juniper_nodes.specs.laws.LiteralLaws.{meaning-is_text};
 
-    ghost of_bool = { boolean };
+    ghost own_int = { number_of };
 
-    ghost of_int = { integer };
+    ghost own_str = { meaning_of };
 
-    ghost of_text = { text };
-
-    ghost bool_in = { bool_in };
-
-    ghost int_in = { int_in };
-
-    ghost str_in = { str_in };
-
-    ghost string_in = { string_in };
-
-    ghost own_string_in = { string_in };
-
-    ghost shown = { literal_shown };
+    ghost own_text = { own_text };
 
     ghost equal_by_content = { λ a b. same_content-Decides (literal_content a) (literal_content b) };
 
-    ghost has_form = { literal-has_form };
-
     ghost shows_itself = { λ a. refl };
 
-    ghost lent_is_copied = { λ a t e. lent-is_string (literal_content a) t e };
+    ghost lent_is_text = { meaning-is_text };
 
-    ghost lent_is_handed_out = { λ a t e. lent-is_string (literal_content a) t e };
-
-    fn from_bool(value: bool) -> Self {
-        Literal::Default(DefaultScalarValue::from_bool(value))
+    fn from_default(scalar: DefaultScalarValue) -> Self {
+        Literal::Default(scalar)
     }
 
-    fn from_int(value: i32) -> Self {
-        Literal::Default(DefaultScalarValue::from_int(value))
-    }
-
-    fn from_string(value: String) -> Self {
-        Literal::Default(DefaultScalarValue::from_string(value))
-    }
-
-    fn try_to_bool(&self) -> Option<bool> {
+    #[tactic(auto, using(crate::proofs::Literals::shown_back, crate::proofs::Literals::shown_after))]
+    fn held(&self) -> Held<'_> {
         match self {
-            Literal::Default(scalar) => scalar.try_to_bool(),
-            _ => None,
-        }
-    }
-
-    fn try_to_int(&self) -> Option<i32> {
-        match self {
-            Literal::Default(scalar) => scalar.try_to_int(),
-            Literal::Int(number) => Some(number.value),
-            _ => None,
+            Literal::Default(scalar) => Held::Default(scalar),
+            Literal::Int(number) => Held::Own {
+                int: Some(number.value),
+                text: None,
+            },
+            Literal::LargeInt(_) | Literal::Float(_) => Held::Own {
+                int: None,
+                text: None,
+            },
+            Literal::String(string) | Literal::BlockString(string) => Held::Own {
+                int: None,
+                text: Some(string.value.as_str()),
+            },
         }
     }
 
     #[tactic(auto, using(crate::proofs::Literals::shown_back, crate::proofs::Literals::shown_after))]
-    fn try_as_str(&self) -> Option<&str> {
-        match self {
-            Literal::Default(scalar) => scalar.try_as_str(),
-            Literal::String(string) | Literal::BlockString(string) => Some(string.value.as_str()),
-            _ => None,
-        }
+    fn to_default(&self, alloc: Global) -> Result<DefaultScalarValue, AllocError> {
+        let text = match self {
+            Literal::Default(scalar) => return scalar.try_clone(alloc),
+            Literal::Int(number) => &number.written,
+            Literal::LargeInt(text) | Literal::Float(text) => text,
+            Literal::String(string) | Literal::BlockString(string) => &string.value,
+        };
+        Ok(DefaultScalarValue::String(copied(alloc, text)?))
     }
 
     #[tactic(auto, using(crate::proofs::Literals::shown_back, crate::proofs::Literals::shown_after))]
-    fn try_to_string(&self, alloc: Global) -> Result<Option<String>, AllocError> {
+    fn into_default(self, _alloc: Global) -> Result<DefaultScalarValue, AllocError> {
         match self {
-            Literal::Default(scalar) => scalar.try_to_string(alloc),
-            Literal::Int(number) => Ok(Some(copied(alloc, &number.written)?)),
-            Literal::LargeInt(text) | Literal::Float(text) => Ok(Some(copied(alloc, text)?)),
+            Literal::Default(scalar) => Ok(scalar),
+            Literal::Int(number) => Ok(DefaultScalarValue::String(number.written)),
+            Literal::LargeInt(text) | Literal::Float(text) => Ok(DefaultScalarValue::String(text)),
             Literal::String(string) | Literal::BlockString(string) => {
-                Ok(Some(copied(alloc, &string.value)?))
+                Ok(DefaultScalarValue::String(string.value))
             }
         }
     }
 
-    #[tactic(auto, using(crate::proofs::Literals::shown_back, crate::proofs::Literals::shown_after))]
-    fn try_into_string(self, alloc: Global) -> Result<Option<String>, AllocError> {
-        match self {
-            Literal::Default(scalar) => scalar.try_into_string(alloc),
-            Literal::Int(number) => Ok(Some(number.written)),
-            Literal::LargeInt(text) | Literal::Float(text) => Ok(Some(text)),
-            Literal::String(string) | Literal::BlockString(string) => Ok(Some(string.value)),
-        }
-    }
-
-    fn try_clone(&self, alloc: Global) -> Result<Self, AllocError> {
+    fn try_copy(&self, alloc: Global) -> Result<Self, AllocError> {
         match self {
             Literal::Default(scalar) => Ok(Literal::Default(scalar.try_clone(alloc)?)),
             Literal::Int(number) => Ok(Literal::Int(IntLiteral {

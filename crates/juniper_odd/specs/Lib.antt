@@ -3,5 +3,4 @@ pub mod RefuseAll
 pub mod OddError
 pub mod Decimals
 pub mod Thousandths
-pub mod laws
 pub mod WithoutScalars

@@ -4,8 +4,9 @@ use Rattle.graphql_lexical.specs.declared.kind.Kind.{Kind}
 use Rattle.graphql_lexical.specs.Kinds.{Spelling, Names, Strings, BlockStrings, Floats, Ints, Fixed, NoText, spelling}
 use Rattle.juniper_tokens.specs.Errors.{ExpectedScalar}
 use Rattle.juniper_values.specs.Text.{Text}
-use Rattle.juniper_values.specs.Scalar.{Content, integer, text, boolean, custom, Reading}
-use Rattle.juniper_values.specs.Default.{default_content, default_reading, default_shown}
+use Rattle.juniper_values.specs.Scalar.{Content, custom, Reading}
+use Rattle.juniper_values.specs.Default.{default_content, default_reading}
+use Rattle.juniper_values.specs.BesideDefault.{shown_beside}
 use Rattle.juniper_odd.specs.Decimals.{thousandths_in, milli_text}
 use Rattle.juniper_odd.specs.declared.thousandths.Thousandths.{Thousandths}
 use Rattle.juniper_odd.specs.declared.thousandths.Thousandths.TheVariants as scalar
@@ -48,14 +49,4 @@ custom_text (n ∷ ns) = milli_text n
 
 -- as the default type shows itself, and a number with its places
 abbrev pub thousandths_shown : Content → Text
-thousandths_shown (integer n) = default_shown (integer n)
-thousandths_shown (text t) = t
-thousandths_shown (boolean b) = default_shown (boolean b)
-thousandths_shown (custom ns) = custom_text ns
-
--- a text, or that of a number of thousandths
-abbrev pub string_in : Content → Option Text
-string_in (integer n) = None
-string_in (text t) = Some t
-string_in (boolean b) = None
-string_in (custom ns) = Some (custom_text ns)
+thousandths_shown = shown_beside custom_text

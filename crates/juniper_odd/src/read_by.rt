@@ -8,7 +8,10 @@ ghost use Rattle.juniper_values.specs.Scalar.{Reading, MeetsReading};
 ghost use Rattle.juniper_values.specs.Text.{Text};
 ghost use Rattle.juniper_odd.specs.ReadBy.{held_content};
 
-use juniper::{DefaultScalarValue, ParseScalarResult, ParseScalarValue, ScalarToken, ScalarValue};
+use juniper::{
+    BesideDefault, DefaultScalarValue, Held, ParseScalarResult, ParseScalarValue, ScalarToken,
+    ScalarValue,
+};
 use std::alloc::{AllocError, Global};
 use std::fmt;
 use std::marker::PhantomData;
@@ -87,73 +90,40 @@ impl<R: TokenReader> ParseScalarValue<ReadBy<R>> for ReadBy<R> {
     }
 }
 
-impl<R: TokenReader> ScalarValue for ReadBy<R> {
-    ghost use Rattle.std.specs.Prelude.{refl};
-    ghost use Rattle.juniper_values.specs.Scalar.{boolean, integer, text};
-    ghost use Rattle.juniper_values.specs.Default.{int_in, bool_in, text_in};
-    ghost use Rattle.juniper_values.specs.laws.ScalarLaws.{default-has_form, same_content-Decides};
+impl<R: TokenReader> BesideDefault for ReadBy<R> {
+    ghost use Rattle.std.specs.Prelude.{[], None};
+    ghost use Rattle.juniper_values.specs.laws.ScalarLaws.{same_content-Decides};
+    ghost use Rattle.juniper_values.specs.laws.BesideLaws.{default-shown};
 
-    ghost of_bool = { boolean };
+    ghost own_int = { λ ns. None };
 
-    ghost of_int = { integer };
+    ghost own_str = { λ ns. None };
 
-    ghost of_text = { text };
-
-    ghost bool_in = { bool_in };
-
-    ghost int_in = { int_in };
-
-    ghost str_in = { text_in };
-
-    ghost string_in = { text_in };
-
-    ghost own_string_in = { text_in };
-
-    ghost shown = { default_shown };
+    ghost own_text = { λ ns. [] };
 
     ghost equal_by_content = { λ a b. same_content-Decides (held_content a) (held_content b) };
 
-    ghost has_form = { λ a. default-has_form a.scalar };
+    ghost shows_itself = { λ a. cc (default-shown (λ ns. []) a.scalar) };
 
-    ghost shows_itself = { λ a. refl };
+    ghost lent_is_text = { λ ns t e. absurd (cc e) };
 
-    ghost lent_is_copied = { λ a t e. e };
-
-    ghost lent_is_handed_out = { λ a t e. e };
-
-    fn from_bool(value: bool) -> Self {
-        ReadBy::from(DefaultScalarValue::from_bool(value))
+    fn from_default(scalar: DefaultScalarValue) -> Self {
+        ReadBy::from(scalar)
     }
 
-    fn from_int(value: i32) -> Self {
-        ReadBy::from(DefaultScalarValue::from_int(value))
+    fn held(&self) -> Held<'_> {
+        Held::Default(&self.scalar)
     }
 
-    fn from_string(value: String) -> Self {
-        ReadBy::from(DefaultScalarValue::from_string(value))
+    fn to_default(&self, alloc: Global) -> Result<DefaultScalarValue, AllocError> {
+        self.scalar.try_clone(alloc)
     }
 
-    fn try_to_bool(&self) -> Option<bool> {
-        self.scalar.try_to_bool()
+    fn into_default(self, _alloc: Global) -> Result<DefaultScalarValue, AllocError> {
+        Ok(self.scalar)
     }
 
-    fn try_to_int(&self) -> Option<i32> {
-        self.scalar.try_to_int()
-    }
-
-    fn try_as_str(&self) -> Option<&str> {
-        self.scalar.try_as_str()
-    }
-
-    fn try_to_string(&self, alloc: Global) -> Result<Option<String>, AllocError> {
-        self.scalar.try_to_string(alloc)
-    }
-
-    fn try_into_string(self, alloc: Global) -> Result<Option<String>, AllocError> {
-        self.scalar.try_into_string(alloc)
-    }
-
-    fn try_clone(&self, alloc: Global) -> Result<Self, AllocError> {
+    fn try_copy(&self, alloc: Global) -> Result<Self, AllocError> {
         Ok(ReadBy::from(self.scalar.try_clone(alloc)?))
     }
 }

@@ -7,8 +7,8 @@ ghost use Rattle.juniper_odd.specs.Thousandths.{thousandths_content, thousandths
 
 use crate::decimals::{thousandths_in, write_decimal};
 use juniper::{
-    DefaultScalarValue, ParseError, ParseScalarResult, ParseScalarValue, ReadFailure, ScalarToken,
-    ScalarValue,
+    BesideDefault, DefaultScalarValue, Held, ParseError, ParseScalarResult, ParseScalarValue,
+    ReadFailure, ScalarToken, ScalarValue,
 };
 use std::alloc::{AllocError, Global};
 use std::fmt;
@@ -96,90 +96,56 @@ fn milli_string(alloc: Global, number: i64) -> Result<String, AllocError>
     Thousandths::Milli(number).to_string(alloc)
 }
 
-impl ScalarValue for Thousandths {
-    ghost use Rattle.std.specs.Prelude.{refl};
-    ghost use Rattle.juniper_values.specs.Scalar.{boolean, integer, text};
-    ghost use Rattle.juniper_values.specs.Default.{int_in, bool_in, text_in};
+impl BesideDefault for Thousandths {
+    ghost use Rattle.std.specs.Prelude.{None, refl};
     ghost use Rattle.juniper_values.specs.laws.ScalarLaws.{same_content-Decides};
-    ghost use Rattle.juniper_odd.specs.Thousandths.{string_in};
-    ghost use Rattle.juniper_odd.specs.laws.ThousandthsLaws.{thousandths-has_form, lent-is_string};
+    ghost use Rattle.juniper_odd.specs.Thousandths.{custom_text};
 
-    ghost of_bool = { boolean };
+    ghost own_int = { λ ns. None };
 
-    ghost of_int = { integer };
+    ghost own_str = { λ ns. None };
 
-    ghost of_text = { text };
-
-    ghost bool_in = { bool_in };
-
-    ghost int_in = { int_in };
-
-    ghost str_in = { text_in };
-
-    ghost string_in = { string_in };
-
-    ghost own_string_in = { string_in };
-
-    ghost shown = { thousandths_shown };
+    ghost own_text = { custom_text };
 
     ghost equal_by_content = { λ a b. same_content-Decides (thousandths_content a) (thousandths_content b) };
 
-    ghost has_form = { thousandths-has_form };
-
     ghost shows_itself = { λ a. refl };
 
-    ghost lent_is_copied = { λ a t e. lent-is_string (thousandths_content a) t e };
+    ghost lent_is_text = { λ ns t e. absurd (cc e) };
 
-    ghost lent_is_handed_out = { λ a t e. lent-is_string (thousandths_content a) t e };
-
-    fn from_bool(value: bool) -> Self {
-        Thousandths::Default(DefaultScalarValue::from_bool(value))
+    fn from_default(scalar: DefaultScalarValue) -> Self {
+        Thousandths::Default(scalar)
     }
 
-    fn from_int(value: i32) -> Self {
-        Thousandths::Default(DefaultScalarValue::from_int(value))
-    }
-
-    fn from_string(value: String) -> Self {
-        Thousandths::Default(DefaultScalarValue::from_string(value))
-    }
-
-    fn try_to_bool(&self) -> Option<bool> {
+    fn held(&self) -> Held<'_> {
         match self {
-            Thousandths::Default(scalar) => scalar.try_to_bool(),
-            Thousandths::Milli(_) => None,
+            Thousandths::Default(scalar) => Held::Default(scalar),
+            Thousandths::Milli(_) => Held::Own {
+                int: None,
+                text: None,
+            },
         }
     }
 
-    fn try_to_int(&self) -> Option<i32> {
+    fn to_default(&self, alloc: Global) -> Result<DefaultScalarValue, AllocError> {
         match self {
-            Thousandths::Default(scalar) => scalar.try_to_int(),
-            Thousandths::Milli(_) => None,
+            Thousandths::Default(scalar) => scalar.try_clone(alloc),
+            Thousandths::Milli(number) => Ok(DefaultScalarValue::String(milli_string(
+                alloc, *number,
+            )?)),
         }
     }
 
-    fn try_as_str(&self) -> Option<&str> {
+    fn into_default(self, alloc: Global) -> Result<DefaultScalarValue, AllocError> {
         match self {
-            Thousandths::Default(scalar) => scalar.try_as_str(),
-            Thousandths::Milli(_) => None,
+            Thousandths::Default(scalar) => Ok(scalar),
+            Thousandths::Milli(number) => {
+                Ok(DefaultScalarValue::String(milli_string(alloc, number)?))
+            }
         }
     }
 
-    fn try_to_string(&self, alloc: Global) -> Result<Option<String>, AllocError> {
-        match self {
-            Thousandths::Default(scalar) => scalar.try_to_string(alloc),
-            Thousandths::Milli(number) => Ok(Some(milli_string(alloc, *number)?)),
-        }
-    }
-
-    fn try_into_string(self, alloc: Global) -> Result<Option<String>, AllocError> {
-        match self {
-            Thousandths::Default(scalar) => scalar.try_into_string(alloc),
-            Thousandths::Milli(number) => Ok(Some(milli_string(alloc, number)?)),
-        }
-    }
-
-    fn try_clone(&self, alloc: Global) -> Result<Self, AllocError> {
+    fn try_copy(&self, alloc: Global) -> Result<Self, AllocError> {
         match self {
             Thousandths::Default(scalar) => Ok(Thousandths::Default(scalar.try_clone(alloc)?)),
             Thousandths::Milli(number) => Ok(Thousandths::Milli(*number)),

@@ -6,6 +6,7 @@ pub mod BlockStrings
 pub mod device
 pub mod Integers
 pub mod Default
+pub mod BesideDefault
 pub mod TypeLiteral
 pub mod View
 pub mod Display

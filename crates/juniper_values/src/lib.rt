@@ -1,6 +1,7 @@
 //! Scalars, type literals and input values of GraphQL.
 #![tactic(auto)]
 
+mod beside_default;
 mod block_string;
 mod default_scalar;
 mod escapes;
@@ -10,6 +11,7 @@ mod scalar;
 mod text;
 mod type_literal;
 
+pub use beside_default::{BesideDefault, Held};
 pub use default_scalar::DefaultScalarValue;
 pub use input_value::{FromInputValue, InputValue, Variables};
 pub use scalar::{
