@@ -41,7 +41,8 @@ none_nested depth = (shallow, refl, refl)
 
     shallow : IsShallow depth []
     shallow front others e =
-        subst (λ (l : List Lexeme). nesting l ≤ℤ pos depth) (sym (none front others e)) (not_above 0 0 depth (omega arith))
+        subst (λ (l : List Lexeme). nesting l ≤ℤ pos depth) (sym (none front others e))
+        (not_above 0 0 depth (omega arith))
 
 module _ (depth : ℕ) (ts : List Lexeme) (t : Lexeme) where
   shallow_more : IsShallow depth ts → nesting (ts ++ t ∷ []) ≤ℤ pos depth → IsShallow depth (ts ++ t ∷ [])

@@ -9,7 +9,7 @@ use Rattle.graphql_lexical.specs.declared.kind.Kind.{Kind}
 use Rattle.graphql_lexical.specs.declared.kind.Kind.TheVariants.{EndOfFile}
 use Rattle.graphql_lexical.specs.Kinds.{same_kind}
 use Rattle.graphql_lexical.specs.Cutting.{Cut, Lexeme}
-use Rattle.graphql_lexical.specs.Nesting.{opened, closed, nesting, end_after, ended_by, IsFirstDeeper}
+use Rattle.graphql_lexical.specs.Nesting.{opened, closed, nesting, ended_by, IsFirstDeeper}
 use Rattle.graphql_lexical.specs.Place.{Place, place}
 use Rattle.graphql_lexical.specs.device.Streams.{Tokens}
 use Rattle.graphql_lexical.proofs.Public.{after_deeper, by_places, by_texts, crossed, one_deep, cut_streams, whole_cut}
@@ -192,16 +192,6 @@ module _ (source : List ℕ) (depth most : ℕ) where
       → Streams depth 0 0 lexemes all
   streams_cut lexemes cut few =
       cut_streams depth most source 0 0 0 lexemes (omega arith) (by_places source lexemes cut) (omega (arith, few))
-
-  -- a whole stream has no token that is nested too deep
-  pub none_deep : all.whole ≡ true → (lexemes before : List Lexeme) (x : Lexeme)
-      → DeeperFrom depth 0 0 lexemes before x
-      → all.tokens ≡ ended_by before x → ⊥
-  none_deep w lexemes before x d e =
-      let shallow = (whole_cut depth most source 0 0 0 (omega arith) (omega arith) w).2 in
-      let here = shallow (before ++ x ∷ []) (end_after x ∷ []) (e ∙ sym (append_assoc before (x ∷ []) (end_after x ∷
-      []))) in
-      omega (arith, d.deeper, here)
 
   -- what a whole stream is
   pub whole_stream : all.whole ≡ true → Cut source all.tokens × HasFew [] source most × IsShallow depth all.tokens

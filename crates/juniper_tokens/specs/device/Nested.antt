@@ -25,7 +25,8 @@ abbrev pub IsOfRange : LexerState → TokenRange → Lexeme → Type 0
 IsOfRange lexer r t = (t.kind ≡ r.kind)
     × (t.span ≡ record { start = place lexer.source r.start.characters; end = place lexer.source lexer.index })
 
--- Of these tokens none is nested deeper, and so many brackets are opened and closed; or this is the span of the first that is.
+-- Of these tokens none is nested deeper, and so many brackets are opened and closed; or this is the span of the first
+-- that is.
 abbrev pub NestedAs : ℕ → List Lexeme → ℕ → ℕ → Option Span → Type 0
 NestedAs depth ts o c None = IsShallow depth ts × (o ≡ opened ts) × (c ≡ closed ts)
 NestedAs depth ts o c (Some span) = (before : List Lexeme) × (t : Lexeme) × IsFirstDeeper depth ts before t
