@@ -69,6 +69,9 @@ feed_class_tests b l = agree_at (λ k. sameb the_type (class_of k) LineFeed) (λ
 pub quote_class_tests : (b : ℕ) → b < 256 → sameb the_type (class_of b) Quote ≡ (b == 34)
 quote_class_tests b l = agree_at (λ k. sameb the_type (class_of k) Quote) (λ k. k == 34) refl b l
 
+pub dot_class_tests : (b : ℕ) → b < 256 → sameb the_type (class_of b) Dot ≡ (b == 46)
+dot_class_tests b l = agree_at (λ k. sameb the_type (class_of k) Dot) (λ k. k == 46) refl b l
+
 pub ignored_class_tests : (b : ℕ) → b < 256 → ignored_class (class_of b) ≡ ignored_step false b
 ignored_class_tests b l = agree_at (λ k. ignored_class (class_of k)) (ignored_step false) refl b l
 

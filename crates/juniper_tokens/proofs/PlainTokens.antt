@@ -11,7 +11,7 @@ use Rattle.graphql_lexical.specs.Characters.{is_name_character, is_digit, is_pla
 use Rattle.graphql_lexical.specs.declared.kind.Kind.{Kind}
 use Rattle.graphql_lexical.specs.declared.kind.Kind.TheVariants as kinds
 use Rattle.graphql_lexical.specs.declared.state.State.{State}
-use Rattle.graphql_lexical.specs.declared.state.State.TheVariants.{Start, Done, InName, Zero, Digits, Quote, InString, Backslash}
+use Rattle.graphql_lexical.specs.declared.state.State.TheVariants.{Start, Done, OneDot, TwoDots, InName, Zero, Digits, Quote, InString, Backslash}
 use Rattle.graphql_lexical.specs.device.Machines.{onward, reach}
 use Rattle.graphql_lexical.specs.device.Scan.{step, answer}
 use Rattle.graphql_lexical.specs.device.Scan as scans
@@ -29,7 +29,7 @@ use Rattle.juniper_tokens.specs.device.ByteRuns.{byte_at, is_inner}
 use Rattle.juniper_tokens.specs.device.Scans.{Finds}
 use Rattle.juniper_tokens.specs.device.Walks.{run_test, run_step, run_size, run_machine, RunsTo, token_machine, WalkedToken, is_in_float, first_class}
 use Rattle.juniper_tokens.proofs.Offsets.{ascii_first, byte_at_on}
-use Rattle.juniper_tokens.proofs.ByteClasses.{name_class_tests, digit_class_tests, first_state_tests, low_class, low_class_tests, quote_class_tests}
+use Rattle.juniper_tokens.proofs.ByteClasses.{name_class_tests, digit_class_tests, first_state_tests, low_class, low_class_tests, quote_class_tests, dot_class_tests}
 use Rattle.juniper_tokens.proofs.ByteRuns.{step_once, walked_on}
 use Rattle.juniper_tokens.proofs.RunWalks.{walked_none, walked_further}
 use Rattle.juniper_tokens.proofs.TokenWalks.{string_over, token_step}
@@ -127,6 +127,18 @@ string_read (c ∷ cs) t l d = by_plain (is_plain c) refl
     by_plain true e = step_more Start Quote (Done kinds.String) 34 _ (c ∷ cs) refl
         (same_after c cs e ∙ in_run run.Plain InString plain_stays (c ∷ cs) 1 (Done kinds.String) (string_ends _ t d))
     by_plain false e = absurd (omega (arith, l, run_none run.Plain c cs e))
+
+-- the bytes of two and of three dots
+dots_at_two : (t : List ℕ) → byte_at 2 (46 ∷ (46 ∷ t)) ≡ 2
+dots_at_two t = ascii_first 46 1 (46 ∷ t) (omega arith) ∙ ap suc (ascii_first 46 0 t (omega arith))
+
+dots_at_three : (t : List ℕ) → byte_at 3 (46 ∷ (46 ∷ (46 ∷ t))) ≡ 3
+dots_at_three t = ascii_first 46 2 (46 ∷ (46 ∷ t)) (omega arith) ∙ ap suc (dots_at_two t)
+
+dots_read : (t : List ℕ) → reach step Start (46 ∷ (46 ∷ (46 ∷ t))) ≡ (3, Done kinds.Ellipsis)
+dots_read t = step_more Start OneDot (Done kinds.Ellipsis) 46 2 (46 ∷ (46 ∷ t)) refl
+    (step_more OneDot TwoDots (Done kinds.Ellipsis) 46 1 (46 ∷ t) refl
+    (step_more TwoDots (Done kinds.Ellipsis) (Done kinds.Ellipsis) 46 0 t refl (done_stays kinds.Ellipsis t)))
 
 -- Over the bytes of a run after a String's first quote the steps are those within a String.
 begun : (ds tail : List ℕ) (r : Offset) → tail ≡ encodes ds → RunsTo run.Plain tail r → 0 < r.characters → (n : ℕ)
@@ -226,6 +238,35 @@ module _ (text bytes : List ℕ) (u : IsUtf8 text) (same : bytes ≡ text) (some
       ∙ step_more Start (Done kind) (Done kind) b 0 (drop 1 cs) goes (done_stays kind (drop 1 cs))) refl
       (sym (ap (byte_at 1) f ∙ ascii_first b 0 (drop 1 cs) (below classes.Punctuator c refl)))
 
+  -- the ASCII character that begins at a byte
+  stands_at : (i k a : ℕ) → i ≡ byte_at k cs → a < 128 → i < length bytes → get_or bytes i 0 ≡ a
+      → drop k cs ≡ a ∷ drop 1 (drop k cs)
+  stands_at i k a o l within e =
+      let rest : drop i bytes ≡ encodes (drop k cs) = ap (drop i) same ∙ rest_bytes text i k u o in
+      first_low (drop k cs) a (subst (λ x. FirstByte (drop k cs) x)
+      (get_or-drop i bytes 0 0 ∙ (ap (λ n. get_or bytes n 0) (plus_none i) ∙ e))
+      (first_byte (drop k cs) (drop i bytes) rest (omega (arith, within, length-drop i bytes)))) l
+    where
+      plus_none : (n : ℕ) → n + 0 ≡ n
+      plus_none n = omega arith
+
+  pub dots_found : classes.Dot ≡ class_of b → 2 < length bytes → get_or bytes 1 0 ≡ 46 → get_or bytes 2 0 ≡ 46
+      → Finds cs (record { kind = kinds.Ellipsis; end = record { bytes = 3; characters = 3 } })
+  dots_found c l second third =
+      let dot : b ≡ 46 = eqb-true b 46 (sym (dot_class_tests b small)
+      ∙ ap (λ k. sameb the_type k classes.Dot) (sym c)) in
+      let one : cs ≡ 46 ∷ drop 1 cs = front classes.Dot c refl ∙ ap (λ (x : ℕ). x ∷ drop 1 cs) dot in
+      let more : drop 1 cs ≡ 46 ∷ drop 1 (drop 1 cs) =
+      stands_at 1 1 46 (sym (ap (byte_at 1) one ∙ ascii_first 46 0 (drop 1 cs) (omega arith))) (omega arith) (omega (arith, l)) second in
+      let two : cs ≡ 46 ∷ (46 ∷ drop 1 (drop 1 cs)) = one ∙ ap (λ (t : List ℕ). 46 ∷ t) more in
+      let last : drop 2 cs ≡ 46 ∷ drop 1 (drop 2 cs) =
+      stands_at 2 2 46 (sym (ap (byte_at 2) two ∙ dots_at_two (drop 1 (drop 1 cs)))) (omega arith) l third in
+      let three : cs ≡ 46 ∷ (46 ∷ (46 ∷ drop 1 (drop 2 cs))) =
+      two ∙ ap (λ (t : List ℕ). 46 ∷ (46 ∷ t)) (sym (ap (drop 2) two) ∙ last) in
+      ended_token cs kinds.Ellipsis (Done kinds.Ellipsis) 3 3
+      (ap (reach step Start) three ∙ dots_read (drop 1 (drop 2 cs)))
+      refl (sym (ap (byte_at 3) three ∙ dots_at_three (drop 1 (drop 2 cs))))
+
   -- at a quote after the run
   pub string_found : (r : Offset) (tail : List ℕ) → classes.Quote ≡ class_of b
       → tail ≡ take (length bytes - 1) (drop 1 bytes) → RunsTo run.Plain tail r
@@ -249,13 +290,9 @@ module _ (text bytes : List ℕ) (u : IsUtf8 text) (same : bytes ≡ text) (some
         units.offset,
         ap (byte_at (suc n)) f ∙ ascii_first b n ds (below classes.Quote c refl),
       ) in
-      let rest : drop (1 + r.bytes) bytes ≡ encodes (drop n ds) = ap (drop (1 + r.bytes)) same
-      ∙ (rest_bytes text (1 + r.bytes) (suc n) u offset ∙ ap encodes (ap (drop (suc n)) f)) in
+      let past : drop (suc n) cs ≡ drop n ds = ap (drop (suc n)) f in
       let last : drop n ds ≡ 34 ∷ drop 1 (drop n ds) =
-      first_low (drop n ds) 34 (subst (λ x. FirstByte (drop n ds) x)
-      (get_or-drop (1 + r.bytes) bytes 0 0 ∙ (ap (λ k. get_or bytes k 0) (plus_none (1 + r.bytes)) ∙ e))
-      (first_byte (drop n ds) (drop (1 + r.bytes) bytes) rest (omega (arith, k, length-drop (1 + r.bytes) bytes))))
-      (omega arith) in
+      sym past ∙ (stands_at (1 + r.bytes) (suc n) 34 offset (omega arith) k e ∙ ap (λ (t : List ℕ). 34 ∷ drop 1 t) past) in
       let reached : reach step Start cs ≡ (2 + n, Done kinds.String) =
       ap (reach step Start) (f ∙ ap (λ (x : ℕ). x ∷ ds) quote)
       ∙ (string_read ds (drop 1 (drop n ds)) (omega (arith, units.characters, l))
@@ -267,9 +304,6 @@ module _ (text bytes : List ℕ) (u : IsUtf8 text) (same : bytes ≡ text) (some
       ∙ ascii_first 34 0 (drop 1 (drop n ds)) (omega arith)))
       ∙ (byte_at_on (suc n) 1 cs ∙ ap (λ k. byte_at k cs) (sym two)) in
       ended_token cs kinds.String (Done kinds.String) ((1 + r.bytes) + 1) (2 + n) reached refl ends
-    where
-      plus_none : (n : ℕ) → n + 0 ≡ n
-      plus_none n = omega arith
 
   -- Up to the end of the run a String has begun.
   pub string_begun : (r : Offset) (tail : List ℕ) → classes.Quote ≡ class_of b

@@ -230,6 +230,17 @@ impl<'a> Lexer<'a> {
         }
     }
 
+    /// Goes to where another lexer of the same source stands. What need not be copied isn't.
+    #[inline(always)]
+    pub(crate) fn go_to(&mut self, other: &Lexer<'a>)
+        requires { other.now.source ≡ self.old.source }
+        ensures source { self.new.source ≡ other.now.source }
+        ensures index { self.new.index ≡ other.now.index }
+    {
+        self.at = other.at;
+        self.position = other.position;
+    }
+
     /// Skips ignored tokens, and takes the token after them if it is a plain one.
     ///
     /// Otherwise a token may begin at the lexer's position, and `scan` takes it.

@@ -121,12 +121,15 @@ impl<'a> TokenStream<'a> {
         next.start = lexer.position();
         match lexer.take_plain(class) {
             Some(range) => {
-                next.range = range;
-                self.lexer = lexer;
+                // field by field: a copy of the whole also clears its unused bytes
+                next.range.kind = range.kind;
+                next.range.start = range.start;
+                next.range.end = range.end;
+                self.lexer.go_to(&lexer);
                 self.count(range.kind);
             }
             None => {
-                self.lexer = lexer;
+                self.lexer.go_to(&lexer);
                 self.other(next);
             }
         }

@@ -1,7 +1,7 @@
-//! Tokens that a run finds: Names, Ints, Strings; and punctuators of one character.
+//! Tokens that a run finds: Names, Ints, Strings; and punctuators.
 ghost use Rattle.std.specs.Prelude.{◌≡◌, ◌==◌, ◌≤◌, false, get_or, IfSome};
 ghost use Rattle.std.specs.Str.{chars};
-ghost use Rattle.juniper_tokens.specs.declared.byte_classes.ByteClass.TheVariants.{Digit, Quote};
+ghost use Rattle.juniper_tokens.specs.declared.byte_classes.ByteClass.TheVariants.{Digit, Dot, Quote};
 ghost use Rattle.juniper_tokens.specs.ByteClasses.{class_of};
 ghost use Rattle.juniper_tokens.specs.device.Scans.{Finds, IsPlain};
 ghost use Rattle.juniper_tokens.specs.device.Walks.{is_in_float, first_class, WalkedToken};
@@ -16,8 +16,8 @@ use crate::lexer::text::{Offset, text_from};
 use crate::lexer::walk::walk_on;
 use graphql_lexical::{Kind, State};
 
-/// The token at the front of a text, if it is a Name, an Int that does not begin with `-` or `0`, a punctuator of one
-/// character, or a String that does not begin with its end or with an escape. The class is that of the text's first byte.
+/// The token at the front of a text, if it is a Name, an Int that does not begin with `-` or `0`, a punctuator, or a String
+/// that does not begin with its end or with an escape. The class is that of the text's first byte.
 #[inline(always)]
 pub(crate) fn plain_token(class: ByteClass, text: &str) -> Option<Found>
     requires { class ≡ first_class (chars text.now) }
@@ -43,9 +43,30 @@ pub(crate) fn plain_token(class: ByteClass, text: &str) -> Option<Found>
             }
             plain_int(text)
         }
+        ByteClass::Dot => plain_dots(text),
         ByteClass::Quote => plain_string(text),
         _ => None,
     }
+}
+
+// The punctuator `...` whose first dot stands first, unless one of the others is missing.
+#[inline(always)]
+fn plain_dots(text: &str) -> Option<Found>
+    requires { class_of (get_or text.now 0 0) ≡ Dot }
+    ensures finds { IfSome result (Finds (chars text.now)) }
+    ensures plain { IfSome result (λ found. IsPlain found.kind) }
+{
+    let bytes = text.as_bytes();
+    if bytes.len() < 3 || bytes[1] != b'.' || bytes[2] != b'.' {
+        return None;
+    }
+    Some(Found {
+        kind: Kind::Ellipsis,
+        end: Offset {
+            bytes: 3,
+            characters: 3,
+        },
+    })
 }
 
 // The Int whose first digit stands first, unless it continues as a Float.

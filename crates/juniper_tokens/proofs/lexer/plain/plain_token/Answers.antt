@@ -34,5 +34,8 @@ pub plain_int-requires-clause-digit : goal.plain_int-requires-clause-digit
 plain_int-requires-clause-digit c =
     sym (sym c.in-Digit.is ∙ (c.requires ∙ class_there c.args.text.now c.utf8.text))
 
+pub plain_dots-requires : goal.plain_dots-requires
+plain_dots-requires c = sym (sym c.in-Dot.is ∙ (c.requires ∙ class_there c.args.text.now c.utf8.text))
+
 pub plain_string-requires : goal.plain_string-requires
 plain_string-requires c = sym (sym c.in-Quote.is ∙ (c.requires ∙ class_there c.args.text.now c.utf8.text))

@@ -18,7 +18,8 @@ returns-in-Some c =
     here.lexer u (search (rules, there)) p c.count.new.self
     (token_taken here.most here.depth here.left here.opened here.closed here.is_deep here.is_short whole
     u c.take_plain.new.self c.in-Some.range c.in-Some.ensures.takes c.in-Some.ensures.source c.position-next.result
-    c.position-next.ensures c.in-Some.ensures.more c.count.new.self c.count.ensures))
+    c.position-next.ensures c.in-Some.ensures.more c.count.new.self
+    (rw (c.go_to.ensures.source, c.go_to.ensures.index) at c.count.ensures)))
 
 pub returns-in-None : goal.returns-in-None
 returns-in-None c =
@@ -31,4 +32,4 @@ returns-in-None c =
     subst (λ (s : StreamState). GivesNext s c.other.new.next c.other.new.self) c.self.view_is
     (gives_there here.most here.depth here.left here.opened here.closed here.is_deep here.is_short some shallow
     here.lexer u (search (rules, there)) c.other.new.next c.other.new.self
-    (rw same at c.other.ensures))
+    (rw same at (rw (c.go_to-in-None.ensures.source, c.go_to-in-None.ensures.index) at c.other.ensures)))
