@@ -40,7 +40,7 @@ impl Gather<()> for PartCount {
 }
 
 /// A spread in a definition.
-#[derive(Clone, Copy, Debug)]
+#[derive(Clone, Copy)]
 pub(crate) struct NamedSpread<'a> {
     pub name: &'a str,
     /// The number of fields around it.

@@ -8,7 +8,7 @@ use juniper_tokens::Span;
 use std::alloc::Global;
 
 /// A spread in a definition.
-#[derive(Clone, Copy, Debug)]
+#[derive(Clone, Copy)]
 pub(crate) struct Spread {
     /// The index of the fragment that it names among the definitions, or None if there is no such fragment.
     pub target: Option<usize>,
@@ -27,7 +27,7 @@ pub(crate) struct Outline {
 }
 
 /// How far the walk has come with a definition.
-#[derive(Clone, Copy, Debug)]
+#[derive(Clone, Copy)]
 pub(crate) enum State {
     Unvisited,
     /// The number of its spreads that are counted, and the complexity with these.
@@ -36,7 +36,7 @@ pub(crate) enum State {
 }
 
 /// What the walk does next.
-#[derive(Clone, Copy, Debug)]
+#[derive(Clone, Copy)]
 enum Step {
     /// On to the next spread of the same definition.
     NextSpread,

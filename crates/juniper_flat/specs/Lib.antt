@@ -2,7 +2,6 @@ pub mod Places
 pub mod ByteTables
 pub mod Nodes
 pub mod Scalars
-pub mod laws
 pub mod Excerpts
 pub mod Faults
 pub mod Limits

@@ -7,14 +7,17 @@ ghost use Rattle.juniper_values.specs.Scalar.{MeetsReading, same_content};
 ghost use Rattle.juniper_nodes.specs.Literal.{literal_shown, string_reading, of_block};
 ghost use Rattle.juniper_flat.specs.Scalars.{scalar_content, int_reading};
 
-use juniper::{DefaultScalarValue, ParseScalarResult, ParseScalarValue, ScalarToken, ScalarValue};
+use juniper::{
+    BesideDefault, DefaultScalarValue, Held, ParseScalarResult, ParseScalarValue, ScalarToken,
+    ScalarValue,
+};
 use juniper_tokens::text::{copied, same_text, write_text};
 use std::alloc::{AllocError, Global};
 use std::fmt;
 
 /// A scalar as C gets it: what it means; of a number beyond the default type, its kind alone, since its text is in the
 /// source.
-#[derive(Debug, Drop)]
+#[derive(Drop)]
 pub(crate) enum SourceScalar {
     /// What the default type reads, except block strings.
     Default(DefaultScalarValue),
@@ -115,97 +118,66 @@ fn read_block(alloc: Global, text: &str) -> ParseScalarResult<SourceScalar>
     }
 }
 
-impl ScalarValue for SourceScalar {
+impl BesideDefault for SourceScalar {
     ghost use Rattle.std.specs.Prelude.{refl};
-    ghost use Rattle.juniper_values.specs.Scalar.{boolean, integer, text};
-    ghost use Rattle.juniper_values.specs.Default.{bool_in};
     ghost use Rattle.juniper_values.specs.laws.ScalarLaws.{same_content-Decides};
-    ghost use Rattle.juniper_nodes.specs.Literal.{int_in, str_in, string_in};
-    ghost use Rattle.juniper_nodes.specs.laws.LiteralLaws.{lent-is_string};
-    ghost use Rattle.juniper_flat.specs.laws.ScalarLaws.{scalar-has_form};
+    ghost use Rattle.juniper_nodes.specs.Literal.{number_of, meaning_of, own_text};
+    ghost use Rattle.juniper_nodes.specs.laws.LiteralLaws.{meaning-is_text};
 
-    ghost of_bool = { boolean };
+    ghost own_int = { number_of };
 
-    ghost of_int = { integer };
+    ghost own_str = { meaning_of };
 
-    ghost of_text = { text };
-
-    ghost bool_in = { bool_in };
-
-    ghost int_in = { int_in };
-
-    ghost str_in = { str_in };
-
-    ghost string_in = { string_in };
-
-    ghost own_string_in = { string_in };
-
-    ghost shown = { literal_shown };
+    ghost own_text = { own_text };
 
     ghost equal_by_content = { λ a b. same_content-Decides (scalar_content a) (scalar_content b) };
 
-    ghost has_form = { scalar-has_form };
-
     ghost shows_itself = { λ a. refl };
 
-    ghost lent_is_copied = { λ a t e. lent-is_string (scalar_content a) t e };
+    ghost lent_is_text = { meaning-is_text };
 
-    ghost lent_is_handed_out = { λ a t e. lent-is_string (scalar_content a) t e };
-
-    fn from_bool(value: bool) -> Self {
-        SourceScalar::Default(DefaultScalarValue::from_bool(value))
-    }
-
-    fn from_int(value: i32) -> Self {
-        SourceScalar::Default(DefaultScalarValue::from_int(value))
-    }
-
-    fn from_string(value: String) -> Self {
-        SourceScalar::Default(DefaultScalarValue::from_string(value))
-    }
-
-    fn try_to_bool(&self) -> Option<bool> {
-        match self {
-            SourceScalar::Default(scalar) => scalar.try_to_bool(),
-            _ => None,
-        }
-    }
-
-    fn try_to_int(&self) -> Option<i32> {
-        match self {
-            SourceScalar::Default(scalar) => scalar.try_to_int(),
-            _ => None,
-        }
+    fn from_default(scalar: DefaultScalarValue) -> Self {
+        SourceScalar::Default(scalar)
     }
 
     #[tactic(auto, using(juniper_nodes::proofs::Public::shown_back))]
-    fn try_as_str(&self) -> Option<&str> {
+    fn held(&self) -> Held<'_> {
         match self {
-            SourceScalar::Default(scalar) => scalar.try_as_str(),
-            SourceScalar::BlockString(text) => Some(text.as_str()),
-            SourceScalar::LargeInt | SourceScalar::Float => None,
+            SourceScalar::Default(scalar) => Held::Default(scalar),
+            SourceScalar::LargeInt | SourceScalar::Float => Held::Own {
+                int: None,
+                text: None,
+            },
+            SourceScalar::BlockString(text) => Held::Own {
+                int: None,
+                text: Some(text.as_str()),
+            },
         }
     }
 
     #[tactic(auto, using(crate::proofs::Scalars::texts))]
-    fn try_to_string(&self, alloc: Global) -> Result<Option<String>, AllocError> {
+    fn to_default(&self, alloc: Global) -> Result<DefaultScalarValue, AllocError> {
         match self {
-            SourceScalar::Default(scalar) => scalar.try_to_string(alloc),
-            SourceScalar::LargeInt | SourceScalar::Float => Ok(Some(String::new(alloc))),
-            SourceScalar::BlockString(text) => Ok(Some(copied(alloc, text)?)),
+            SourceScalar::Default(scalar) => scalar.try_clone(alloc),
+            SourceScalar::LargeInt | SourceScalar::Float => {
+                Ok(DefaultScalarValue::String(String::new(alloc)))
+            }
+            SourceScalar::BlockString(text) => Ok(DefaultScalarValue::String(copied(alloc, text)?)),
         }
     }
 
     #[tactic(auto, using(crate::proofs::Scalars::texts))]
-    fn try_into_string(self, alloc: Global) -> Result<Option<String>, AllocError> {
+    fn into_default(self, alloc: Global) -> Result<DefaultScalarValue, AllocError> {
         match self {
-            SourceScalar::Default(scalar) => scalar.try_into_string(alloc),
-            SourceScalar::LargeInt | SourceScalar::Float => Ok(Some(String::new(alloc))),
-            SourceScalar::BlockString(text) => Ok(Some(text)),
+            SourceScalar::Default(scalar) => Ok(scalar),
+            SourceScalar::LargeInt | SourceScalar::Float => {
+                Ok(DefaultScalarValue::String(String::new(alloc)))
+            }
+            SourceScalar::BlockString(text) => Ok(DefaultScalarValue::String(text)),
         }
     }
 
-    fn try_clone(&self, alloc: Global) -> Result<Self, AllocError> {
+    fn try_copy(&self, alloc: Global) -> Result<Self, AllocError> {
         match self {
             SourceScalar::Default(scalar) => Ok(SourceScalar::Default(scalar.try_clone(alloc)?)),
             SourceScalar::LargeInt => Ok(SourceScalar::LargeInt),

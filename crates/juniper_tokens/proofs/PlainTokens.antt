@@ -256,8 +256,9 @@ module _ (text bytes : List ℕ) (u : IsUtf8 text) (same : bytes ≡ text) (some
       let dot : b ≡ 46 = eqb-true b 46 (sym (dot_class_tests b small)
       ∙ ap (λ k. sameb the_type k classes.Dot) (sym c)) in
       let one : cs ≡ 46 ∷ drop 1 cs = front classes.Dot c refl ∙ ap (λ (x : ℕ). x ∷ drop 1 cs) dot in
+      let first : 1 ≡ byte_at 1 cs = sym (ap (byte_at 1) one ∙ ascii_first 46 0 (drop 1 cs) (omega arith)) in
       let more : drop 1 cs ≡ 46 ∷ drop 1 (drop 1 cs) =
-      stands_at 1 1 46 (sym (ap (byte_at 1) one ∙ ascii_first 46 0 (drop 1 cs) (omega arith))) (omega arith) (omega (arith, l)) second in
+      stands_at 1 1 46 first (omega arith) (omega (arith, l)) second in
       let two : cs ≡ 46 ∷ (46 ∷ drop 1 (drop 1 cs)) = one ∙ ap (λ (t : List ℕ). 46 ∷ t) more in
       let last : drop 2 cs ≡ 46 ∷ drop 1 (drop 2 cs) =
       stands_at 2 2 46 (sym (ap (byte_at 2) two ∙ dots_at_two (drop 1 (drop 1 cs)))) (omega arith) l third in
@@ -292,7 +293,8 @@ module _ (text bytes : List ℕ) (u : IsUtf8 text) (same : bytes ≡ text) (some
       ) in
       let past : drop (suc n) cs ≡ drop n ds = ap (drop (suc n)) f in
       let last : drop n ds ≡ 34 ∷ drop 1 (drop n ds) =
-      sym past ∙ (stands_at (1 + r.bytes) (suc n) 34 offset (omega arith) k e ∙ ap (λ (t : List ℕ). 34 ∷ drop 1 t) past) in
+      sym past
+      ∙ (stands_at (1 + r.bytes) (suc n) 34 offset (omega arith) k e ∙ ap (λ (t : List ℕ). 34 ∷ drop 1 t) past) in
       let reached : reach step Start cs ≡ (2 + n, Done kinds.String) =
       ap (reach step Start) (f ∙ ap (λ (x : ℕ). x ∷ ds) quote)
       ∙ (string_read ds (drop 1 (drop n ds)) (omega (arith, units.characters, l))

@@ -12,7 +12,7 @@ ghost use Rattle.juniper.specs.View.{type_of};
 use crate::parser::lists::push_item;
 use graphql_grammar::OperationType;
 use juniper_tokens::{Feed, SourceText, Span, Spanning};
-use juniper_values::{NameText, ScalarValue, Type};
+use juniper_values::{NameText, ParseScalarValue, Type};
 use std::alloc::{AllocError, Global};
 
 /// A list that gathers parts.
@@ -48,7 +48,7 @@ impl<X: Drop> Gather<X> for Vec<X> {
 ///
 /// A part that has others in it is opened before them. Each call returns `AllocError` if memory runs out, and what was
 /// built is of no use then.
-pub trait Builder<S: ScalarValue> {
+pub trait Builder<S: ParseScalarValue<S>> {
     /// A name of the source.
     type Name: SourceText + NameText + Drop;
 
