@@ -12,9 +12,9 @@ use Rattle.juniper_values.specs.Scalar.{Content}
 use Rattle.juniper_complexity.specs.Gathered.{seen_spread, capped_reference, fragment_name, IsGathered, AreGathered}
 use Rattle.juniper_complexity.specs.Parts.{Reference, is_fragment_named, is_operation, fragment_at}
 use Rattle.juniper_complexity.specs.Parts.{spreads_of_definition}
-use Rattle.juniper_complexity.specs.device.Outlines.{Knows, coded, IsOutline, AreOutlines}
+use Rattle.juniper_complexity.specs.device.Outlines.{coded, IsOutline, AreOutlines}
 use Rattle.juniper_complexity.specs.device.Resolved.{is_name, is_named, is_no_fragment, place_of, resolved, IsResolved}
-use Rattle.juniper_complexity.specs.device.Resolved.{AreResolved}
+use Rattle.juniper_complexity.specs.device.Resolved.{AreResolved, LeadTo}
 use Rattle.juniper_complexity.specs.device.Walk.{AreInRange}
 use Rattle.juniper_complexity.specs.declared.outline_builder.DefinitionOutline.{DefinitionOutline}
 use Rattle.juniper_complexity.specs.declared.outline_builder.NamedSpread.{NamedSpread}
@@ -49,9 +49,12 @@ same_place q i (o ∷ os) (d ∷ ds) h =
     ap₂ (λ (b : Bool) (rest : Option ℕ). cond b (Some i) rest) (same_name q o.fragment d h.0.fragment)
     (same_place q (i + 1) os ds h.1)
 
-pub knows_fragments : {names : _} (os : List DefinitionOutline) (ds : List (Definition Content)) → AreGathered os ds
-    → Knows names (place_of os) → Knows names (fragment_at ds)
-knows_fragments os ds h k = record { knows = λ q u. k.knows q u ∙ same_place (chars q) 0 os ds h }
+pub lead_to_fragments : {names : _} (os : List DefinitionOutline) (ds : List (Definition Content)) → AreGathered os ds
+    → LeadTo os names (place_of os) → LeadTo os names (fragment_at ds)
+lead_to_fragments os ds h k = record {
+  few = λ l q. k.few l q ∙ same_place q 0 os ds h;
+  many = λ l. record { knows = λ q u. (k.many l).knows q u ∙ same_place (chars q) 0 os ds h };
+}
 
 -- ---- spreads
 
@@ -110,6 +113,10 @@ module _ (place : Text → Option ℕ) where
     pub name : Text
     pub target : place name ≡ Some t
 
+  by_name : (t : ℕ) (s : Spread) → (r : NamedSpread) × (s ≡ resolved place r) → s.target ≡ Some t → Named t
+  by_name t s (r, e) et =
+      record { name = chars r.name.now; target = sym (ap (λ (z : Spread). z.target) e) ∙ et }
+
   named : (os : List DefinitionOutline) (xs : List Outline) → AreResolved place os xs → (i j t : ℕ) (x : Outline)
       (s : Spread) → slice_get xs i ≡ Some x → slice_get x.spreads.items j ≡ Some s → s.target ≡ Some t → Named t
   named [] [] h i j t x s ex es et = absurd cc
@@ -121,8 +128,7 @@ module _ (place : Text → Option ℕ) where
       let here : slice_get (map (resolved place) o.spreads.items) j ≡ Some s =
       subst (λ (z : List Spread). slice_get z j ≡ Some s)
       (ap (λ (z : Outline). z.spreads.items) (sym same) ∙ spreads) es in
-      let r = made_by (resolved place) o.spreads.items j s here in
-      record { name = chars r.0.name.now; target = sym (ap (λ (z : Spread). z.target) r.1) ∙ et }
+      by_name t s (made_by (resolved place) o.spreads.items j s here) et
   named (o ∷ os) (y ∷ xs) h (suc i) j t x s ex es et = named os xs h.1 i j t x s ex es et
 
 pub resolved_range : (os : List DefinitionOutline) (xs : List Outline) → AreResolved (place_of os) os xs

@@ -144,6 +144,6 @@ pub fn gathered_complexities(
         return Ok(own_complexities(alloc, definitions)?);
     }
     let names = gathered_names(alloc, definitions)?;
-    let outlines = resolved_outlines(alloc, &names, definitions)?;
+    let outlines = resolved_outlines(alloc, definitions, &names)?;
     outlined_complexities(alloc, &outlines)
 }

@@ -1,10 +1,9 @@
 //! The spreads of definitions that were gathered, with the fragments that they name.
 ghost use Rattle.std.specs.Prelude.{ℕ, IfOk, Option};
 ghost use Rattle.graphql_grammar.specs.Tokens.{Text};
-ghost use Rattle.juniper_complexity.specs.device.Outlines.{Knows};
-ghost use Rattle.juniper_complexity.specs.device.Resolved.{IsResolved, AreResolved};
+ghost use Rattle.juniper_complexity.specs.device.Resolved.{LeadTo, IsResolved, AreResolved};
 
-use crate::names::find;
+use crate::names::find_gathered;
 use crate::outline_builder::DefinitionOutline;
 use crate::walk::{Outline, Spread};
 use std::alloc::{AllocError, Global};
@@ -12,14 +11,15 @@ use std::collections::BTreeMap;
 
 fn resolved_outline<'a>(
     alloc: Global,
+    definitions: &[DefinitionOutline<'a>],
     names: &BTreeMap<&'a str, usize>,
     definition: &DefinitionOutline<'a>,
 ) -> Result<Outline, AllocError>
-    ensures { IfOk result (λ outline. (place : Text → Option ℕ) → Knows names.now place → IsResolved place definition.now outline) }
+    ensures { IfOk result (λ outline. (place : Text → Option ℕ) → LeadTo definitions.now names.now place → IsResolved place definition.now outline) }
 {
     let mut spreads = Vec::with_capacity(alloc, definition.spreads.len())?;
     for spread in &definition.spreads {
-        let target = find(names, spread.name);
+        let target = find_gathered(definitions, names, spread.name);
         spreads.push(Spread {
             target,
             fields_around: spread.fields_around,
@@ -36,14 +36,14 @@ fn resolved_outline<'a>(
 /// The outlines of definitions that were gathered, in their order.
 pub(crate) fn resolved_outlines<'a>(
     alloc: Global,
-    names: &BTreeMap<&'a str, usize>,
     definitions: &[DefinitionOutline<'a>],
+    names: &BTreeMap<&'a str, usize>,
 ) -> Result<Vec<Outline>, AllocError>
-    ensures { IfOk result (λ outlines. (place : Text → Option ℕ) → Knows names.now place → AreResolved place definitions.now outlines.items) }
+    ensures { IfOk result (λ outlines. (place : Text → Option ℕ) → LeadTo definitions.now names.now place → AreResolved place definitions.now outlines.items) }
 {
     let mut outlines = Vec::with_capacity(alloc, definitions.len())?;
     for definition in definitions {
-        outlines.push(resolved_outline(alloc, names, definition)?)?;
+        outlines.push(resolved_outline(alloc, definitions, names, definition)?)?;
     }
     Ok(outlines)
 }

@@ -1,7 +1,9 @@
 -- A device: outlines that were gathered, with the definitions that their spreads name.
 use Rattle.std.specs.Borrow.{Bor}
+use Rattle.std.specs.BTreeMap.{BTreeMap}
 use Rattle.std.specs.List.{position_from}
-use Rattle.std.specs.Prelude.{◌≡◌, ℕ, Bool, true, false, List, [], ◌∷◌, map, slice_get, Option, Some, None}
+use Rattle.std.specs.Prelude.{◌≡◌, ◌<◌, ◌≤◌, ℕ, Bool, true, false, List, [], ◌∷◌, length, map, slice_get}
+use Rattle.std.specs.Prelude.{Option, Some, None}
 use Rattle.std.specs.Str.{chars}
 use Rattle.graphql_grammar.specs.Tokens.{Text}
 use Rattle.juniper_values.specs.Text.{same_text}
@@ -9,6 +11,7 @@ use Rattle.juniper_complexity.specs.declared.outline_builder.DefinitionOutline.{
 use Rattle.juniper_complexity.specs.declared.outline_builder.NamedSpread.{NamedSpread}
 use Rattle.juniper_complexity.specs.declared.walk.Outline.{Outline}
 use Rattle.juniper_complexity.specs.declared.walk.Spread.{Spread}
+use Rattle.juniper_complexity.specs.device.Outlines.{Knows}
 
 abbrev pub is_name : Text → Option (Bor (List ℕ)) → Bool
 is_name name None = false
@@ -20,6 +23,12 @@ is_named name o = is_name name o.fragment
 -- the index of the first fragment of this name
 abbrev pub place_of : List DefinitionOutline → Text → Option ℕ
 place_of definitions name = position_from (is_named name) 0 definitions
+
+-- From names to places these lead as this function does: the map, or few definitions by themselves.
+pub record LeadTo (definitions : List DefinitionOutline) (names : BTreeMap (Bor (List ℕ)) ℕ)
+    (place : Text → Option ℕ) : Type 0 where
+  pub few : length definitions ≤ 8 → (name : Text) → place_of definitions name ≡ place name
+  pub many : 8 < length definitions → Knows names place
 
 abbrev pub is_no_fragment : Option (Bor (List ℕ)) → Bool
 is_no_fragment None = true

@@ -3,7 +3,7 @@ use Rattle.std.proofs.Common.{drop}
 use Rattle.std.specs.List.{position_from}
 use Rattle.juniper_complexity.specs.device.Outlines.{Knows}
 use Rattle.juniper_complexity.specs.device.Resolved.{is_named}
-use Rattle.juniper_complexity.proofs.names.gathered_names.Given as goal
+use Rattle.juniper_complexity.proofs.names.put_all.Given as goal
 
 abbrev pub invariant-loop-i : goal.invariant-loop-i
 invariant-loop-i l = Knows l.names (λ name. position_from (is_named name) l.i (drop l.i l.definitions))
