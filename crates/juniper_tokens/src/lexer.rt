@@ -236,6 +236,7 @@ impl<'a> Lexer<'a> {
         requires { other.now.source ≡ self.old.source }
         ensures source { self.new.source ≡ other.now.source }
         ensures index { self.new.index ≡ other.now.index }
+        ensures ended { self.new.ended ≡ self.old.ended }
     {
         self.at = other.at;
         self.position = other.position;
