@@ -12,5 +12,6 @@ mod resolving;
 mod walk;
 
 pub use complexity::{Complexity, ComplexityFailure};
+pub use names::fragment_names;
 pub use operations::{OperationComplexity, gathered_complexities, operation_complexities};
 pub use outline_builder::{DefinitionOutline, DefinitionOutlines, OutlineBuilder, PartCount};

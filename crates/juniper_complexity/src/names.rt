@@ -5,7 +5,7 @@ ghost use Rattle.std.specs.Str.{chars};
 ghost use Rattle.graphql_grammar.specs.Tokens.{Text};
 ghost use Rattle.juniper.specs.View.{view_definition};
 ghost use Rattle.juniper_complexity.specs.Parts.{fragment_at};
-ghost use Rattle.juniper_complexity.specs.device.Outlines.{Knows};
+ghost use Rattle.juniper_complexity.specs.Names.{Knows};
 ghost use Rattle.juniper_complexity.specs.device.Resolved.{LeadTo, is_named, place_of};
 ghost use Rattle.std.specs.Prelude.{map};
 
@@ -29,8 +29,16 @@ pub(crate) fn find<'t>(names: &BTreeMap<&'t str, usize>, name: &'t str) -> Optio
     names.get(&name).copied()
 }
 
-/// The indexes of the fragments among the definitions, by their names. If several have one name, the first is kept.
-pub(crate) fn fragment_names<'a, S: ScalarValue>(
+/// The indexes of the fragments among a document's definitions, by their names (GraphQL specification, October 2021,
+/// section 2.8). If several have one name, which validation forbids (section 5.5.1.1), the first is kept.
+///
+/// For n fragments takes time in proportion to n log n comparisons of names. Returns `AllocError` if memory runs out.
+///
+/// ```
+/// let names = fragment_names(alloc, &document)?;
+/// let index = names.get(spread.item.name.item);
+/// ```
+pub fn fragment_names<'a, S: ScalarValue>(
     alloc: Global,
     document: &[Definition<'a, S>],
 ) -> Result<BTreeMap<&'a str, usize>, AllocError>

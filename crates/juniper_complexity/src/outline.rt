@@ -8,7 +8,8 @@ ghost use Rattle.juniper_complexity.specs.device.Sums.{at_level};
 ghost use Rattle.juniper_complexity.specs.Parts as parts;
 ghost use Rattle.juniper_complexity.specs.device.BySpreads.{own_of, own_of_all};
 ghost use Rattle.juniper_complexity.specs.Parts.{spreads_of, spreads_of_all};
-ghost use Rattle.juniper_complexity.specs.device.Outlines.{Knows, Gains, IsOutline, AreOutlines};
+ghost use Rattle.juniper_complexity.specs.Names.{Knows};
+ghost use Rattle.juniper_complexity.specs.device.Outlines.{Gains, IsOutline, AreOutlines};
 
 use crate::complexity::Complexity;
 use crate::names::find;

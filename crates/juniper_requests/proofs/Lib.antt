@@ -3,3 +3,4 @@ pub mod Named
 pub mod Variables
 pub mod FirstDefaults
 pub mod Borders
+mod FirstFragments

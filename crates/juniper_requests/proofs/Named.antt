@@ -1,7 +1,6 @@
--- Names in ordered maps and sets.
-use Rattle.std.proofs.Common.{◌≡◌, ℕ, suc, ◌-◌, ◌<◌, ◌≤◌, length, drop, get_or, drop-cons, ap₂, arith, Bool, true}
-use Rattle.std.proofs.Common.{false, ◌||◌, List, [], ◌∷◌, ◌++◌, Option, Some, option_map, if◌then◌else◌, refl, ap}
-use Rattle.std.proofs.Common.{sym, ◌∙◌, Bor}
+-- Names in ordered sets.
+use Rattle.std.proofs.Common.{◌≡◌, ℕ, Bool, true, false, ◌||◌, List, [], ◌∷◌, ◌++◌, if◌then◌else◌, refl, ap, sym}
+use Rattle.std.proofs.Common.{◌∙◌, Bor}
 use Rattle.std.specs.BTreeSet.{BTreeSet, contains_by, UpdatesBy}
 use Rattle.std.specs.Cmp.Lexicographic.{slice_cmp}
 use Rattle.std.specs.List.{list_any}
@@ -14,20 +13,6 @@ use Rattle.graphql_grammar.specs.Tokens.{Text}
 use Rattle.juniper_tokens.proofs.Public.{pointwise-chars}
 use Rattle.juniper_values.specs.Text.{same_text}
 use Rattle.juniper_requests.specs.device.Seen.{HasSeen}
-
--- a choice, seen through a function
-pub chosen_map : {A B : Type 0} (f : A → B) (b : Bool) (x : A) (o : Option A) (r : Option B) → option_map f o ≡ r
-    → option_map f (if b then Some x else o) ≡ (if b then Some (f x) else r)
-chosen_map f true x o r e = refl
-chosen_map f false x o r e = e
-
--- what is left from an index on, and from the one before it on
-pub drop_before : {A : Type 0} (xs : List A) (i : ℕ) (x : A) → 0 < i → i ≤ length xs → x ≡ get_or xs (i - 1) x
-    → drop (i - 1) xs ≡ x ∷ drop i xs
-drop_before xs i x l w e =
-    let next : suc (i - 1) ≡ i = omega (arith, l) in
-    drop-cons xs (i - 1) x (omega (arith, l, w))
-    ∙ ap₂ (λ y k. y ∷ drop k xs) (sym e) next
 
 last_or : (b c : Bool) → (if b then true else c) ≡ (c || (b || false))
 last_or true true = refl

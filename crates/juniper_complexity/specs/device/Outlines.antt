@@ -1,10 +1,5 @@
 -- A device: outlines and names of the code, as the definitions see them.
 use Rattle.std.specs.Prelude.{◌≡◌, ℕ, List, [], ◌∷◌, ◌++◌, map, Option}
-use Rattle.std.specs.Borrow.{Bor}
-use Rattle.std.specs.BTreeMap.{BTreeMap, get_by}
-use Rattle.std.specs.Cmp.Lexicographic.{slice_cmp}
-use Rattle.std.specs.Ordering.{nat_cmp}
-use Rattle.std.specs.Str.{IsUtf8, chars}
 use Rattle.graphql_grammar.specs.Tokens.{Text}
 use Rattle.graphql_grammar.specs.Tree as tree
 use Rattle.graphql_grammar.specs.Tree.{Definition}
@@ -18,10 +13,6 @@ use Rattle.juniper_complexity.specs.device.BySpreads.{own_of_definition}
 use Rattle.juniper_complexity.specs.declared.complexity.Complexity.{Complexity}
 use Rattle.juniper_complexity.specs.declared.walk.Outline.{Outline}
 use Rattle.juniper_complexity.specs.declared.walk.Spread.{Spread}
-
--- the map has what this function has
-pub record Knows (names : BTreeMap (Bor (List ℕ)) ℕ) (place : Text → Option ℕ) : Type 0 where
-  pub knows : (q : List ℕ) → IsUtf8 q → get_by (λ k. slice_cmp nat_cmp q k.now) names ≡ place (chars q)
 
 -- the spread of the code that is this one
 abbrev pub coded : (Text → Option ℕ) → Reference → Spread

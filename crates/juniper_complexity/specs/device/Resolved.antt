@@ -11,7 +11,7 @@ use Rattle.juniper_complexity.specs.declared.outline_builder.DefinitionOutline.{
 use Rattle.juniper_complexity.specs.declared.outline_builder.NamedSpread.{NamedSpread}
 use Rattle.juniper_complexity.specs.declared.walk.Outline.{Outline}
 use Rattle.juniper_complexity.specs.declared.walk.Spread.{Spread}
-use Rattle.juniper_complexity.specs.device.Outlines.{Knows}
+use Rattle.juniper_complexity.specs.Names.{Knows}
 
 abbrev pub is_name : Text → Option (Bor (List ℕ)) → Bool
 is_name name None = false

@@ -1,7 +1,7 @@
 -- The map has the fragments from this index on.
 use Rattle.std.proofs.Common.{drop}
 use Rattle.std.specs.List.{position_from}
-use Rattle.juniper_complexity.specs.device.Outlines.{Knows}
+use Rattle.juniper_complexity.specs.Names.{Knows}
 use Rattle.juniper_complexity.specs.device.Resolved.{is_named}
 use Rattle.juniper_complexity.proofs.names.put_all.Given as goal
 

@@ -1,7 +1,7 @@
 -- The outline has gained the selections so far.
 use Rattle.std.proofs.Common.{ℕ, Option}
 use Rattle.graphql_grammar.specs.Tokens.{Text}
-use Rattle.juniper_complexity.specs.device.Outlines.{Knows}
+use Rattle.juniper_complexity.specs.Names.{Knows}
 use Rattle.juniper_complexity.proofs.Selecting.{Goes}
 use Rattle.juniper_complexity.proofs.outline.+selection.Given as goal
 

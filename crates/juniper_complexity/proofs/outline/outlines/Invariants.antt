@@ -2,7 +2,8 @@
 use Rattle.std.proofs.Common.{ℕ, map, take, Option}
 use Rattle.graphql_grammar.specs.Tokens.{Text}
 use Rattle.juniper.specs.View.{view_definition}
-use Rattle.juniper_complexity.specs.device.Outlines.{Knows, AreOutlines}
+use Rattle.juniper_complexity.specs.Names.{Knows}
+use Rattle.juniper_complexity.specs.device.Outlines.{AreOutlines}
 use Rattle.juniper_complexity.proofs.outline.outlines.Given as goal
 
 abbrev pub invariant-loop-definition : goal.invariant-loop-definition
