@@ -114,6 +114,12 @@ LONG_NAMES = (
     + "}"
     + times(n // 2, "fragment " + "F" * 1000 + "№ on T {a} ")
 )
+FEW_LONG_NAMES = (
+    lambda n: "{"
+    + times(n, "..." + "F" * 1000 + "7 ")
+    + "}"
+    + "".join("fragment " + "F" * 1000 + f"{i} on T {{a}} " for i in range(1, 8))
+)
 
 # The calls of `run_calls calls`: the kind, the call if the kind has any, its input, and how many times as much twice the
 # size may take. `unlocated_eq` compares the value with itself.
@@ -148,6 +154,7 @@ CALLS = [(("input_value", call), name, text, most) for call, name, text, most in
     (("complexities",), "fragments that are spread twice", DOUBLINGS, LINEAR),
     (("complexities",), "operations over a chain", OPERATIONS, LINEAR),
     (("complexities",), "long names with one beginning", LONG_NAMES, LINEAR),
+    (("complexities",), "seven long names with one beginning", FEW_LONG_NAMES, LINEAR),
     (("requests", "fragment F000000"), "fragments", TEXTS["fragments"], LINEAR),
     (("requests", "fragment F"), "long names with one beginning", LONG_NAMES, LINEAR),
     (("requests", "operation_named Q"), "definitions", TEXTS["definitions"], LINEAR),
