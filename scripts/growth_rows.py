@@ -108,11 +108,13 @@ DOUBLINGS = lambda n: "{...F000000}" + chain(n, lambda i, next: f"fragment F{i} 
 OPERATIONS = lambda n: times(n // 2, "query Q№ {...F000000} ") + chain(
     n // 2, lambda i, next: f"fragment F{i} on T {{...F{next}}}", ""
 )
+# With nine definitions more, since up to eight are looked through, and the names of more are in a map.
 LONG_NAMES = (
     lambda n: "{"
     + times(n // 2, "..." + "F" * 1000 + "№" + " " * 19)
     + "}"
     + times(n // 2, "fragment " + "F" * 1000 + "№ on T {a} ")
+    + "fragment A on T {a} " * 9
 )
 FEW_LONG_NAMES = (
     lambda n: "{"

@@ -39,7 +39,7 @@ fn count_of_text(alloc: Global, text: &str, most: u32) -> Result<Counted, Unread
     let mut lexer = Lexer::new(alloc, text);
     let mut left = most;
     loop {
-        match next_step(&mut lexer) {
+        match next_step::<Counted>(&mut lexer) {
             Step::Token(_, span) => {
                 if left == 0 {
                     return Ok(Counted::Many(reported(alloc, text, span)?));

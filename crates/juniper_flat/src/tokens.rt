@@ -49,7 +49,7 @@ fn tokens_of_text(
     let mut lexer = Lexer::new(alloc, text);
     let mut count = 0;
     loop {
-        match next_step(&mut lexer) {
+        match next_step::<Token>(&mut lexer) {
             Step::Token(kind, span) => {
                 if count == most as usize {
                     return Ok(Written::Many(many_fault(&table, span)));

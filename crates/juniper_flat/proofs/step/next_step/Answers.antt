@@ -8,8 +8,8 @@ not_true : (b : Bool) → (b ≡ true → ⊥) → b ≡ false
 not_true true h = absurd (h refl)
 not_true false h = refl
 
-pub returns-else-eq : goal.returns-else-eq
-returns-else-eq c =
+pub returns-else-is_end : goal.returns-else-is_end
+returns-else-is_end g c =
     let token = c.in-Some-Ok.token in
     let steps = c.in-Some-Ok.ensures.steps in
     let gives : GivesItem c.args.lexer.now (Ok token) c.next.new.self =
@@ -18,7 +18,7 @@ returns-else-eq c =
       view_token token,
       gives.stands,
       no_end,
-      c.kind-kind.ensures,
+      c.kind.ensures,
       refl,
       steps.1,
       not_true c.next.new.self.ended (λ h. no_end (gives.ends.0 h)),
