@@ -1,12 +1,15 @@
 -- The value of a block string whose lines but the first are indented by as many characters.
-use Rattle.std.proofs.Common.{◌≡◌, refl, sym, ap, ◌∙◌, ℕ, zero, suc, ◌+◌, Bool, true, false, List, [], ◌∷◌, ◌++◌, map, length, drop, arith}
+use Rattle.std.proofs.Common.{◌≡◌, refl, sym, ap, ◌∙◌, ℕ, ◌+◌, Bool, true, false, List, [], ◌∷◌, ◌++◌, map, length}
+use Rattle.std.proofs.Common.{drop, arith}
 use Rattle.std.specs.List.{list_all}
 use Rattle.std.proofs.lemmas.Bool.{and_parts, and_from}
 use Rattle.std.proofs.lemmas.List.{drop-drop, drop_all, drop_at}
 use Rattle.juniper_values.specs.Text.{Text}
-use Rattle.juniper_values.specs.BlockStrings.{is_indent, is_blank, indent, indents, least, common_indent, unindented, drop_blank_front, drop_blank_end, joined, block_value}
+use Rattle.juniper_values.specs.BlockStrings.{is_indent, is_blank, indent, indents, least, common_indent, unindented}
+use Rattle.juniper_values.specs.BlockStrings.{drop_blank_front, drop_blank_end, joined, block_value}
 use Rattle.juniper_values.specs.laws.BlockLaws.{AreIndented, none, empty, after_white, IsIndented}
-use Rattle.juniper_values.proofs.BlockEnds.{inner}
+use Rattle.juniper_values.proofs.BlockEnds.{inner, none_at_end}
+use Rattle.juniper_values.proofs.BlockUnindented.{drop_stays}
 
 -- ---- indented lines
 
@@ -62,11 +65,6 @@ all_blank (line ∷ ls) e = by_test (is_blank line) refl (all_blank ls)
     by_test true is later = rw is (later (rw is at e))
     by_test false is later = absurd (let no : indent line ∷ indents ls ≡ [] = rw is at e in cc)
 
-drop_stays : (k : ℕ) (line : Text) → is_blank line ≡ true → is_blank (drop k line) ≡ true
-drop_stays zero line e = e
-drop_stays (suc k) [] e = e
-drop_stays (suc k) (c ∷ line) e = drop_stays k line (and_parts (is_indent c) (is_blank line) e).1
-
 map_stays : (k : ℕ) (ls : List Text) → list_all is_blank ls ≡ true → list_all is_blank (map (drop k) ls) ≡ true
 map_stays k [] e = refl
 map_stays k (line ∷ ls) e =
@@ -80,10 +78,6 @@ none_in_front (line ∷ ls) e =
     let parts = and_parts (is_blank line) (list_all is_blank ls) e in
     let h = parts.0 in
     rw h (none_in_front ls parts.1)
-
-none_at_end : (ls : List Text) → list_all is_blank ls ≡ true → drop_blank_end ls ≡ []
-none_at_end [] e = refl
-none_at_end (line ∷ ls) e = rw e
 
 kept_first : (first : Text) (ls : List Text) → is_blank first ≡ false → inner (first ∷ ls) ≡ first ∷ drop_blank_end ls
 kept_first first ls e =

@@ -1,14 +1,16 @@
 -- The common indent, character by character.
-use Rattle.std.proofs.Common.{◌≡◌, refl, sym, ap, ◌∙◌, ℕ, ◌+◌, ◌≤◌, Bool, true, false, List, [], ◌∷◌, ◌++◌, drop, Option, Some, None, arith}
+use Rattle.std.proofs.Common.{◌≡◌, refl, sym, ap, ◌∙◌, ℕ, ◌+◌, ◌≤◌, Bool, true, false, List, [], ◌∷◌, ◌++◌, drop}
+use Rattle.std.proofs.Common.{Option, Some, None, arith}
 use Rattle.std.specs.Prelude.{if◌then◌else◌, option_to_list, unwrap_or}
 use Rattle.std.specs.List.{onto_first}
 use Rattle.juniper_values.specs.Text.{Text}
 use Rattle.graphql_lexical.specs.Characters.{is_line_end}
-use Rattle.juniper_values.specs.BlockStrings.{is_indent, is_blank, indent, indents, least}
-use Rattle.juniper_values.specs.device.BlockSteps.{is_left_out, white_before, place_after, lesser, least_after}
+use Rattle.juniper_values.specs.BlockStrings.{is_indent, is_blank, indent, indents, least, common_indent}
+use Rattle.juniper_values.specs.device.BlockSteps.{lines_of, is_left_out, white_before, place_after, lesser}
+use Rattle.juniper_values.specs.device.BlockSteps.{least_after}
 use Rattle.juniper_values.specs.declared.block_string.Place.{Place}
 use Rattle.juniper_values.specs.declared.block_string.Place.TheVariants.{First, Indent, AfterIndent}
-use Rattle.juniper_values.proofs.BlockLines.{lines_of, left_out, line_ended, line_goes_on}
+use Rattle.juniper_values.proofs.BlockLines.{left_out, line_ended, line_goes_on, others_stay}
 
 -- The indents that a text adds, whose first line goes on from a place.
 abbrev pub added : Place → List Text → List ℕ
@@ -24,10 +26,6 @@ least_with o place ls = least (option_to_list o ++ added place ls)
 begins : (ls : List Text) → added (Indent 0) ls ≡ indents ls
 begins [] = refl
 begins (line ∷ ls) = let e : 0 + indent line ≡ indent line = omega arith in rw e
-
-onto_others : (c : ℕ) (ls : List Text) → drop 1 (onto_first c ls) ≡ drop 1 ls
-onto_others c [] = refl
-onto_others c (line ∷ ls) = refl
 
 -- one more number among those seen
 sooner : (o : Option ℕ) (n : ℕ) (ns : List ℕ) → least (option_to_list o ++ n ∷ ns) ≡ least (lesser o n ∷ ns)
@@ -62,8 +60,8 @@ filled n c (line ∷ ls) e = let s : n ≡ n + 0 = omega arith in rw e (ap (λ m
 
 goes_on : (o : Option ℕ) (place : Place) (c : ℕ) (ls : List Text) → is_line_end c ≡ false
     → least_with (least_after o place c) (place_after place c) ls ≡ least_with o place (onto_first c ls)
-goes_on o First c ls e = rw e (ap (λ ms. least (option_to_list o ++ indents ms)) (sym (onto_others c ls)))
-goes_on o AfterIndent c ls e = rw e (ap (λ ms. least (option_to_list o ++ indents ms)) (sym (onto_others c ls)))
+goes_on o First c ls e = rw e (ap (λ ms. least (option_to_list o ++ indents ms)) (sym (others_stay c ls)))
+goes_on o AfterIndent c ls e = rw e (ap (λ ms. least (option_to_list o ++ indents ms)) (sym (others_stay c ls)))
 goes_on o (Indent n) c ls e = by_test (is_indent c) refl
   where
     by_test : (b : Bool) → is_indent c ≡ b
@@ -75,6 +73,12 @@ goes_on o (Indent n) c ls e = by_test (is_indent c) refl
         ∙ ap (λ ns. least (option_to_list o ++ ns)) (filled n c ls w))
 
 -- ---- the loop
+
+-- whether blank lines were skipped before or not
+pub starts : (skipped : Bool) (place : Place) (ls : List Text) → place ≡ (if skipped then Indent 0 else First)
+    → least_with None place ls ≡ common_indent (if skipped then ls else drop 1 ls)
+starts true place ls e = rw e (ap least (begins ls))
+starts false place ls e = rw e refl
 
 pub skipped : (o : Option ℕ) (place : Place) (c : ℕ) (t u : Text) (all : ℕ) → is_left_out c t ≡ true → u ≡ c ∷ t
     → least_with o place (lines_of u) ≡ all → least_with o place (lines_of t) ≡ all

@@ -1,5 +1,6 @@
 -- What one character changes in the lines of a block string.
-use Rattle.std.proofs.Common.{◌≡◌, refl, sym, ap, ◌∙◌, ℕ, Bool, true, false, ◌&&◌, ◌||◌, ◌==◌, List, [], ◌∷◌, arith}
+use Rattle.std.proofs.Common.{◌≡◌, refl, sym, ap, ◌∙◌, ℕ, Bool, true, false, ◌&&◌, ◌||◌, ◌==◌, List, [], ◌∷◌, drop}
+use Rattle.std.proofs.Common.{arith}
 use Rattle.std.specs.Prelude.{nat_eq, if◌then◌else◌}
 use Rattle.std.specs.List.{starts_with, onto_first}
 use Rattle.std.proofs.lemmas.Bool.{and_parts, or_parts}
@@ -8,7 +9,7 @@ use Rattle.juniper_values.specs.Text.{Text}
 use Rattle.graphql_lexical.specs.Characters.{is_line_end}
 use Rattle.graphql_lexical.specs.Tokens.{mark}
 use Rattle.juniper_values.specs.BlockStrings.{line_feed, with_quotes, lines}
-use Rattle.juniper_values.specs.device.BlockSteps.{is_left_out}
+use Rattle.juniper_values.specs.device.BlockSteps.{lines_of, is_left_out}
 
 -- ---- three quotes
 
@@ -45,9 +46,6 @@ feed_first (c ∷ t) = by_test (quotes c t) refl
 
 -- ---- the lines
 
-abbrev pub lines_of : Text → List Text
-lines_of t = lines (with_quotes t)
-
 return_before : (c : ℕ) (t : Text) → returns c t ≡ returns c (with_quotes t)
 return_before c t = ap (λ b. c == 13 && b) (sym (feed_first t))
 
@@ -75,6 +73,10 @@ line_ended c t e is = lines_before c t e ∙ rw is
 pub line_goes_on : (c : ℕ) (t : Text) → is_left_out c t ≡ false → is_line_end c ≡ false
     → lines_of (c ∷ t) ≡ onto_first c (lines_of t)
 line_goes_on c t e is = lines_before c t e ∙ rw is
+
+pub others_stay : (c : ℕ) (ls : List Text) → drop 1 (onto_first c ls) ≡ drop 1 ls
+others_stay c [] = refl
+others_stay c (line ∷ ls) = refl
 
 -- each text has a first line
 abbrev pub HasFirst : List Text → Type 0

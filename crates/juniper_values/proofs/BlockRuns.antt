@@ -1,9 +1,11 @@
 -- Runs of characters that stand for themselves within a line of a block string: their bytes, and what they change.
-use Rattle.std.proofs.Common.{◌≡◌, refl, sym, ap, ◌∙◌, ℕ, suc, ◌+◌, ◌≤◌, ◌<◌, ◌==◌, ◌⊎◌, inl, inr, Bool, true, false, cond, not, List, [], ◌∷◌, ◌++◌, ◌%◌, ◌^◌, length, map, take, drop, get_or, Fits, w8, IsUtf8, Option, append_assoc, append-nil, length-append, arith}
+use Rattle.std.proofs.Common.{◌≡◌, ◌≢◌, refl, sym, ap, ◌∙◌, ℕ, suc, ◌+◌, ◌≤◌, ◌<◌, ◌==◌, ◌⊎◌, inl, inr, Bool, true}
+use Rattle.std.proofs.Common.{false, cond, not, List, [], ◌∷◌, ◌++◌, ◌%◌, ◌^◌, length, map, take, drop, get_or, Fits, w8}
+use Rattle.std.proofs.Common.{IsUtf8, Option, append_assoc, append-nil, length-append, arith}
 use Rattle.std.specs.List.{AllByRecursion}
 use Rattle.std.specs.Str.{chars}
-use Rattle.std.proofs.lemmas.Bool.{or_parts, agree_below, agree_below_at}
-use Rattle.std.proofs.lemmas.Str.{encode_ascii, encodes-chars}
+use Rattle.std.proofs.lemmas.Bool.{ne_eqb, or_parts, agree_below, agree_below_at}
+use Rattle.std.proofs.lemmas.Str.{encode_ascii, encodes-chars, chars-nil}
 use Rattle.std.proofs.lemmas.List.Sums.{prefix_len_is}
 use Rattle.std.proofs.lemmas.Simd.{run_in_chunk_le, run_in_chunk_fails, run_in_chunk_stops}
 use lib.Dec.{ltb}
@@ -14,14 +16,13 @@ use Rattle.juniper_tokens.specs.LaneMasks.{first_set}
 use Rattle.juniper_tokens.specs.device.ByteRuns.{is_inner, byte_at}
 use Rattle.juniper_tokens.proofs.Public.{ascii_first, wide, low_or_high, counted}
 use Rattle.juniper_values.specs.Text.{Text}
-use Rattle.juniper_values.specs.device.BlockSteps.{is_left_out, least_after, place_after, is_in_indent, ends_run, run_length, RunsOver}
-use Rattle.juniper_values.specs.declared.block_string.Line.{Line}
-use Rattle.juniper_values.specs.declared.block_string.Line.TheVariants.{Filled}
+use Rattle.juniper_values.specs.device.BlockSteps.{lines_of, left_text, is_left_out, least_after, place_after}
+use Rattle.juniper_values.specs.device.BlockSteps.{is_in_indent, ends_run, run_length, RunsOver}
 use Rattle.juniper_values.specs.declared.block_string.Place.{Place}
 use Rattle.juniper_values.specs.declared.block_string.Place.TheVariants.{First, Indent, AfterIndent}
-use Rattle.juniper_values.proofs.BlockLines.{lines_of}
-use Rattle.juniper_values.proofs.BlockWritten.{Stands, writes}
+use Rattle.juniper_values.proofs.BlockWritten.{stays}
 use Rattle.juniper_values.proofs.BlockIndents.{least_with, turned}
+use Rattle.juniper_values.proofs.BlockFeeds.{feeds_with, feeds_filled}
 
 run_more : (c : ℕ) (t : List ℕ) → ends_run c ≡ false → run_length (c ∷ t) ≡ suc (run_length t)
 run_more c t e = ap (λ b. cond (not b) (1 + run_length t) 0) e ∙ one_more (run_length t)
@@ -102,16 +103,6 @@ runs_on bytes i n within before over = (within, λ k l. by_place k l (ltb k i) r
     by_place k l true e = before.1 k (grind arith)
     by_place k l false e = over.1 k (grind arith) l
 
-pub runs_one : (bytes : List ℕ) (i : ℕ) → i < length bytes → RunsTo bytes i → ends_run (get_or bytes i 0) ≡ false
-    → RunsTo bytes (i + 1)
-runs_one bytes i within before e = (omega (arith, within), λ k l. by_place k l (ltb k i) refl)
-  where
-    by_place : (k : ℕ) → k < i + 1 → (b : Bool) → ltb k i ≡ b → ends_run (get_or bytes k 0) ≡ false
-    by_place k l true t = before.1 k (grind arith)
-    by_place k l false t =
-        let is : i ≡ k = grind arith in
-        ap (λ m. ends_run (get_or bytes m 0)) (sym is) ∙ e
-
 pub run_ends : (bytes : List ℕ) (i : ℕ) → RunsTo bytes i
     → (i < length bytes → ends_run (get_or bytes i 0) ≡ true) → i ≡ run_length bytes
 run_ends bytes i before ends = sym (prefix_len_is (λ b. not (ends_run b)) bytes i 0 before.0
@@ -156,14 +147,31 @@ past_run P on front (c ∷ t) h =
     by_test false e later =
         rw (run_more c t e) (rw (append_assoc front (c ∷ []) (take (run_length t) t)) at later e)
 
-pub copies_run : (k : ℕ) (all : List Text) (value : Text) (kept : ℕ) (line : Line) (t after rest : Text) → line ≡ Filled
-    → after ≡ value ++ take (run_length t) t → rest ≡ drop (run_length t) t
-    → Stands k all value kept line t → Stands k all after kept line rest
-copies_run k all value kept line t after rest full grown is s = rw (full, grown, is)
-    (past_run (λ front u. Stands k all front kept Filled u)
-    (λ front c u e h.
-    writes k all front kept Filled c u (front ++ c ∷ []) Filled (stays_in c u e) (in_line c e) refl refl h)
-    value t (rw full at s))
+-- a run stands for itself where no more of its line is removed
+pub writes_run : (k n feeds : ℕ) (t run rest : Text) → n ≡ 0
+    → run ≡ take (run_length t) t → rest ≡ drop (run_length t) t
+    → left_text k n feeds (lines_of t) ≡ run ++ left_text k n feeds (lines_of rest)
+writes_run k n feeds t run rest none front after =
+    let left : Text → Text = λ u. left_text k 0 feeds (lines_of u) in
+    rw (none, front, after) (sym (past_run (λ read u. read ++ left u ≡ left t)
+    (λ read c u e so_far.
+    append_assoc read (c ∷ []) (left u)
+    ∙ ap (λ v. read ++ v) (sym (stays k 0 feeds c u (c ∷ u) refl (stays_in c u e) (in_line c e) refl))
+    ∙ so_far)
+    [] t refl))
+
+pub goes_on_in_run : (c : ℕ) → c ≢ 92 → is_line_end c ≡ false → ends_run c ≡ false
+goes_on_in_run c other on = rw (ne_eqb c 92 other) on
+
+pub some_bytes : (bs : List ℕ) (c : ℕ) (t : Text) → chars bs ≡ c ∷ t → 0 < length bs
+some_bytes [] c t e = absurd (let no : [] ≡ c ∷ t = sym chars-nil ∙ e in cc)
+some_bytes (b ∷ bs) c t e = omega arith
+
+-- there is one where a character comes that ends none
+pub some_run : (c : ℕ) (t u run : Text) → u ≡ c ∷ t → ends_run c ≡ false → run ≡ take (run_length u) u
+    → run ≡ c ∷ take (run_length t) t
+some_run c t u run is e front =
+    front ∙ ap (λ v. take (run_length v) v) is ∙ ap (λ n. take n (c ∷ t)) (run_more c t e)
 
 place_stays : (place : Place) (c : ℕ) → is_in_indent place ≡ false → is_line_end c ≡ false → place_after place c ≡ place
 place_stays First c e on = rw on refl
@@ -183,4 +191,13 @@ passes_run o place t rest all out is so_far = rw is
     (λ front c u e h.
     turned o o place place c u (c ∷ u) all (stays_in c u e) refl (sym (least_stays o place c out))
     (sym (place_stays place c out (in_line c e))) h)
+    [] t so_far)
+
+pub feeds_past_run : (ends : ℕ) (t rest : Text) (all : ℕ) → rest ≡ drop (run_length t) t
+    → feeds_with ends ends (lines_of t) ≡ all → feeds_with ends ends (lines_of rest) ≡ all
+feeds_past_run ends t rest all is so_far = rw is
+    (past_run (λ front u. feeds_with ends ends (lines_of u) ≡ all)
+    (λ front c u e h.
+    feeds_filled ends ends c u (c ∷ u) all refl h AfterIndent (stays_in c u e) (in_line c e) (λ out. refl)
+    (ap is_in_indent (place_stays AfterIndent c refl (in_line c e))))
     [] t so_far)

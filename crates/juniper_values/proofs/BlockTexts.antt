@@ -1,22 +1,20 @@
--- What a text begins with, and where the value of a block string is cut.
-use Rattle.std.proofs.Common.{◌≡◌, refl, sym, ap, ◌∙◌, ℕ, zero, suc, Bool, true, false, ◌||◌, List, [], ◌∷◌, ◌++◌, length, take, drop, IsUtf8, String, Global, string_bytes, string_len, Decides, MatchBool, arith}
+-- What a text begins with.
+use Rattle.std.proofs.Common.{◌≡◌, refl, sym, ap, ◌∙◌, ℕ, zero, suc, Bool, true, false, ◌||◌, List, ◌++◌, length, take}
+use Rattle.std.proofs.Common.{drop, IsUtf8, Decides, MatchBool, arith}
 use Rattle.std.specs.Prelude.{nat_eq}
 use Rattle.std.specs.List.{starts_with}
 use Rattle.std.specs.Str.{chars, IsAscii}
 use Rattle.std.specs.Str.Pattern.{HasPrefixMatch, FindsTextPrefix}
-use Rattle.std.specs.String.Boundary.{IsSplitPoint}
-use Rattle.std.proofs.lemmas.Bool.{and_parts, and_from}
 use Rattle.std.proofs.lemmas.Bool.Decides.{same_from_decides}
 use Rattle.std.proofs.lemmas.List.{take_at, take-append-drop}
 use Rattle.std.proofs.lemmas.Slice.Eq.{bytes_eq-Decides}
-use Rattle.std.proofs.lemmas.Str.{IsUtf8-from_ascii, IsUtf8-string_bytes, IsCharBoundary-at_seam, chars-append, chars-IsAscii, chars-encodes, scalars-chars, encodes-chars, encodes-append, encodes-IsAscii}
+use Rattle.std.proofs.lemmas.Str.{IsUtf8-from_ascii, chars-append, chars-IsAscii, encodes-chars, encodes-append}
+use Rattle.std.proofs.lemmas.Str.{encodes-IsAscii}
 use Rattle.juniper_values.specs.Text.{Text}
 use Rattle.graphql_lexical.specs.Tokens.{mark}
 use Rattle.juniper_values.specs.BlockStrings.{line_feed}
 use Rattle.std.specs.declared.option.Option.TheVariants.{None}
-use lib.Utf8.{scalar, scalars, encodes}
-
--- ---- what a text begins with
+use lib.Utf8.{encodes}
 
 abbrev Begins : Text → Text → Type 0
 Begins t front = (rest : Text) × (t ≡ front ++ rest)
@@ -65,34 +63,3 @@ ascii_feed (suc i) = omega arith
 pub or_false : (b : Bool) → b ≡ (b || false)
 or_false true = refl
 or_false false = refl
-
--- ---- a text is cut
-
-pub string_length : (s : String Global) → string_len s ≡ length (encodes (chars (string_bytes s)))
-string_length s = s.bytes.ok.0 ∙ ap length (sym (encodes-chars (string_bytes s) (IsUtf8-string_bytes s)))
-
-scalars_parts : (front more : Text) → scalars (front ++ more) ≡ true → (scalars front ≡ true) × (scalars more ≡ true)
-scalars_parts [] more e = (refl, e)
-scalars_parts (c ∷ front) more e =
-    let here = and_parts (scalar c) (scalars (front ++ more)) e in
-    let there = scalars_parts front more here.1 in
-    (and_from (scalar c) (scalars front) here.0 there.0, there.1)
-
-module _ (bs front more : List ℕ) (utf8 : IsUtf8 bs) (is : chars bs ≡ front ++ more)
-    (n : ℕ) (long : n ≡ length (encodes front)) where
-  parts : (scalars front ≡ true) × (scalars more ≡ true)
-  parts = scalars_parts front more (sym (ap scalars is) ∙ scalars-chars bs utf8)
-
-  seam : bs ≡ encodes front ++ encodes more
-  seam = sym (encodes-chars bs utf8) ∙ ap encodes is ∙ encodes-append front more
-
-  pub can_cut : IsSplitPoint bs n
-  can_cut =
-      let b = IsCharBoundary-at_seam bs (encodes front) (encodes more) seam (more, (parts.1, refl)) in
-      rw long (b.0, (λ h. b.1))
-
-  pub cut : chars (take n bs) ≡ front
-  cut =
-      ap (λ u. chars (take n u)) seam
-      ∙ ap chars (take_at (encodes front) (encodes more) n (sym long))
-      ∙ chars-encodes front parts.0

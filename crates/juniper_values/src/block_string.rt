@@ -1,26 +1,18 @@
 //! The text that a block string means (GraphQL specification, October 2021, section 2.9.4).
-ghost use Rattle.std.specs.Prelude.{◌≡◌, ◌+◌, ◌<◌, ◌^◌, drop, ◌==◌, ◌++◌, ◌∷◌, [], IfOk, OnOk, if◌then◌else◌, string_len};
-ghost use Rattle.std.specs.Char.{IsScalar};
-ghost use Rattle.std.specs.Str.{chars};
+ghost use Rattle.std.specs.Prelude.{◌≡◌, ◌+◌, ◌-◌, ◌<◌, ◌^◌, drop, length, [], IfOk, OnOk, IfSome, MatchOption, if◌then◌else◌};
+ghost use Rattle.std.specs.Fmt.{WritesInCalls};
+ghost use Rattle.std.specs.Str.{chars, encode_utf8_all, IsUtf8};
 ghost use Rattle.juniper_values.specs.View.{text_of};
 ghost use Rattle.graphql_lexical.specs.Characters.{is_line_end};
-ghost use Rattle.juniper_values.specs.BlockStrings.{block_value, common_indent, lines, with_quotes, is_indent};
-ghost use Rattle.juniper_values.specs.device.BlockSteps.{is_in_indent, is_left_out, white_before, place_after, least_after, written, line_after, is_filled};
+ghost use Rattle.juniper_values.specs.BlockStrings.{block_value, common_indent, drop_blank_front, drop_blank_end, is_indent};
+ghost use Rattle.juniper_values.specs.device.BlockSteps.{lines_of, begins_blank, left_text, is_in_indent, is_left_out, white_before, place_after, least_after};
 
 mod run;
 
 use crate::block_string::run::split_run;
 use crate::text::split_char;
 use std::alloc::{AllocError, Global};
-
-// How far a line of the value is written.
-#[derive(Clone, Copy)]
-pub(crate) enum Line {
-    // It has nothing but tabs and spaces so far, and this number of its characters is still to be removed.
-    Blank(usize),
-    // It has another character.
-    Filled,
-}
+use std::fmt;
 
 // The place in a line at which the common indent is looked for.
 #[derive(Clone, Copy)]
@@ -33,15 +25,51 @@ pub(crate) enum Place {
     AfterIndent,
 }
 
+// What the text of a block string is like, from a line on.
+#[derive(Clone, Copy)]
+pub(crate) struct Measured {
+    // The common indent.
+    indent: usize,
+    // The number of line ends before the last line that is not blank, 0 if there is none.
+    feeds: usize,
+}
+
 // The value of the block string that has this text between its triple quotes. It is never longer than the text, so
-// memory is asked for once. A run of characters that stand for themselves is copied at once.
+// memory is asked for once.
 pub(crate) fn block_value(alloc: Global, text: &str) -> Result<String, AllocError>
     ensures { IfOk result (λ s. text_of s ≡ block_value (chars text.now)) }
 {
-    let indent = common_indent(text);
     let mut value = String::with_capacity(alloc, text.len())?;
-    let mut kept = 0;
-    let mut line = Line::Blank(0);
+    match write_block_string_value(&mut value, text) {
+        Ok(()) => Ok(value),
+        Err(fmt::Error) => Err(AllocError),
+    }
+}
+
+/// Writes the value of the block string that has this text between its triple quotes (GraphQL specification, October
+/// 2021, section 2.9.4). A run of characters that stand for themselves is written at once.
+///
+/// Returns `fmt::Error` if `out` does, after the value's beginning that `out` took.
+pub fn write_block_string_value<W: fmt::Write>(out: &mut W, text: &str) -> fmt::Result
+    ensures { OnOk result (WritesInCalls W.write_str_gives out.old (encode_utf8_all (block_value (chars text.now))) out.new) }
+{
+    let Some((skipped, rest)) = skip_blank_lines(text) else {
+        return Ok(());
+    };
+    let measured = measure(rest, skipped);
+    let removed = if skipped { measured.indent } else { 0 };
+    write_lines(out, rest, removed, measured)
+}
+
+// Whether blank lines are at the beginning, and the text after them, or None if all lines are blank.
+fn skip_blank_lines(text: &str) -> Option<(bool, &str)>
+    ensures lines { MatchOption result (drop_blank_front (lines_of (chars text.now)) ≡ [])
+        (λ p. drop_blank_front (lines_of (chars text.now)) ≡ lines_of (chars p.1.now)) }
+    ensures skipped { IfSome result (λ p. p.0 ≡ begins_blank (lines_of (chars text.now))) }
+    ensures utf8 { IfSome result (λ p. IsUtf8 p.1.now) }
+{
+    let mut skipped = false;
+    let mut start = text;
     let mut rest = text;
     while let Some((c, after)) = split_char(rest) {
         rest = after;
@@ -49,73 +77,70 @@ pub(crate) fn block_value(alloc: Global, text: &str) -> Result<String, AllocErro
             continue;
         }
         if is_line_end(c) {
-            kept = end_line(&mut value, line, kept)?;
-            line = Line::Blank(indent);
-            continue;
+            skipped = true;
+            start = rest;
+        } else if !is_indent(c) {
+            return Some((skipped, start));
         }
-        line = write(&mut value, line, c)?;
-        if let Line::Filled = line {
+    }
+    None
+}
+
+// Writes the lines from here on, with as many line feeds between them as were counted. Of the first line so many characters
+// are removed, of each other line the common indent.
+fn write_lines<W: fmt::Write>(
+    out: &mut W,
+    text: &str,
+    removed: usize,
+    measured: Measured,
+) -> fmt::Result
+    ensures { OnOk result (WritesInCalls W.write_str_gives out.old
+        (encode_utf8_all (left_text measured.indent removed measured.feeds (lines_of (chars text.now)))) out.new) }
+{
+    let mut removed = removed;
+    let mut feeds = measured.feeds;
+    let mut rest = text;
+    while let Some((c, after)) = split_char(rest) {
+        if is_left_out(c, after) {
+            rest = after;
+        } else if is_line_end(c) {
+            if feeds == 0 {
+                return Ok(());
+            }
+            feeds -= 1;
+            out.write_char('\n')?;
+            removed = measured.indent;
+            rest = after;
+        } else if removed > 0 {
+            removed -= 1;
+            rest = after;
+        } else if c == '\\' {
+            // It stands for itself, but ends a run.
+            out.write_char(c)?;
+            rest = after;
+        } else {
             let (run, after_run) = split_run(rest);
-            value.push_str(run)?;
+            out.write_str(run)?;
             rest = after_run;
         }
     }
-    if let Line::Blank(_) = line {
-        value.truncate(kept);
-    }
-    Ok(value)
+    Ok(())
 }
 
-// Ends a line of the value. The last line that is not blank ends at the byte `kept`, 0 if there is none, and after this
-// line at the result. Blank lines at the beginning are removed.
-fn end_line(value: &mut String, line: Line, kept: usize) -> Result<usize, AllocError>
-    ensures kept { IfOk result (λ n. n ≡ (if is_filled line then string_len value.old else kept)) }
-    ensures text { IfOk result (λ n. text_of value.new ≡ (if n == 0 then [] else text_of value.old ++ 10 ∷ [])) }
-{
-    let kept = match line {
-        Line::Blank(_) => kept,
-        Line::Filled => value.len(),
-    };
-    if kept == 0 {
-        value.clear();
-    } else {
-        value.push('\n')?;
-    }
-    Ok(kept)
-}
-
-// Writes a character of a line, unless it is to be removed.
-fn write(value: &mut String, line: Line, c: char) -> Result<Line, AllocError>
-    requires { IsScalar c }
-    ensures line { IfOk result (λ next. next ≡ line_after line c) }
-    ensures text { OnOk result (text_of value.new ≡ text_of value.old ++ written line c) }
-{
-    match line {
-        Line::Blank(n) => {
-            if n > 0 {
-                return Ok(Line::Blank(n - 1));
-            }
-            value.push(c)?;
-            if is_indent(c) {
-                Ok(Line::Blank(0))
-            } else {
-                Ok(Line::Filled)
-            }
-        }
-        Line::Filled => {
-            value.push(c)?;
-            Ok(Line::Filled)
-        }
-    }
-}
-
-// The least number of tabs and spaces at the beginning of a line but the first that has another character, or 0 if
-// there is no such line.
-fn common_indent(text: &str) -> usize
-    ensures { result ≡ common_indent (drop 1 (lines (with_quotes (chars text.now)))) }
+// Measures the lines from here on. The indent of the text's first line does not count, so if no line was skipped, that
+// of the first one here does not.
+fn measure(text: &str, skipped: bool) -> Measured
+    ensures indent { result.indent ≡ common_indent (if skipped then lines_of (chars text.now) else drop 1 (lines_of (chars text.now))) }
+    ensures feeds { result.feeds ≡ length (drop_blank_end (lines_of (chars text.now))) - 1 }
 {
     let mut least = None;
-    let mut place = Place::First;
+    let mut place = if skipped {
+        Place::Indent(0)
+    } else {
+        Place::First
+    };
+    let mut ends = 0;
+    let mut feeds = 0;
     let mut rest = text;
     while let Some((c, after)) = split_char(rest) {
         rest = after;
@@ -124,12 +149,18 @@ fn common_indent(text: &str) -> usize
         }
         least = least_after(least, place, c);
         place = place_after(place, c);
-        if !is_in_indent(place) {
+        if is_line_end(c) {
+            ends += 1;
+        } else if !is_in_indent(place) {
+            feeds = ends;
             let (_, after_run) = split_run(rest);
             rest = after_run;
         }
     }
-    least.unwrap_or(0)
+    Measured {
+        indent: least.unwrap_or(0),
+        feeds,
+    }
 }
 
 // The least indent that is known after the character.

@@ -1,7 +1,8 @@
 //! The text that the slice of a String token means (GraphQL specification, October 2021, section 2.9.4).
-ghost use Rattle.std.specs.Prelude.{◌≡◌, ◌<◌, [], ◌∷◌, length, IfOk, IfSome, MatchOption, option_map, Some, None, IsTrue};
+ghost use Rattle.std.specs.Prelude.{◌≡◌, ◌<◌, length, IfOk, OnOk, IfSome, MatchOption, option_map, is_some, Some, None, IsTrue};
 ghost use Rattle.std.specs.Char.{IsScalar};
-ghost use Rattle.std.specs.Str.{chars, IsUtf8};
+ghost use Rattle.std.specs.Fmt.{WritesInCalls, WritesText};
+ghost use Rattle.std.specs.Str.{chars, encode_utf8_all, IsUtf8};
 ghost use Rattle.graphql_lexical.specs.Characters.{is_hex};
 ghost use Rattle.juniper_values.specs.View.{text_of};
 ghost use Rattle.juniper_values.specs.Escapes.{unescape, unescape_backslash, unescape_u, in_front, unicode_escape, hex_value};
@@ -9,37 +10,55 @@ ghost use Rattle.juniper_values.specs.Escapes.{unescape, unescape_backslash, une
 use crate::text::split_char;
 use juniper_tokens::text::short_escape;
 use std::alloc::{AllocError, Global};
+use std::fmt;
 
-// The text with each escape replaced, or None if a backslash begins no escape. Most texts have no backslash.
+// The text with each escape replaced, or None if a backslash begins no escape. The result is never longer than the text,
+// so memory is asked for once.
 pub(crate) fn unescape(alloc: Global, text: &str) -> Result<Option<String>, AllocError>
     ensures { IfOk result (λ o. option_map text_of o ≡ unescape (chars text.now)) }
 {
-    if text.contains('\\') {
-        replace_escapes(alloc, text)
-    } else {
-        Ok(Some(String::from_str(alloc, text)?))
+    let mut value = String::with_capacity(alloc, text.len())?;
+    match write_string_value(&mut value, text) {
+        Ok(true) => Ok(Some(value)),
+        Ok(false) => Ok(None),
+        Err(fmt::Error) => Err(AllocError),
     }
 }
 
-// The same, escape by escape: what stands between two is copied at once. The result is never longer than the text, so
-// memory is asked for once.
-fn replace_escapes(alloc: Global, text: &str) -> Result<Option<String>, AllocError>
-    ensures { IfOk result (λ o. option_map text_of o ≡ unescape (chars text.now)) }
+/// Writes the text that the slice of a String token means: the slice with each escape replaced (GraphQL specification,
+/// October 2021, section 2.9.4). What stands between two escapes is written at once.
+///
+/// Returns whether each backslash begins an escape. If one doesn't, what stands before it was written, and is of no
+/// use. Returns `fmt::Error` if `out` does, after the text's beginning that `out` took.
+pub fn write_string_value<W: fmt::Write>(out: &mut W, text: &str) -> Result<bool, fmt::Error>
+    ensures whole { IfOk result (λ whole. whole ≡ is_some (unescape (chars text.now))) }
+    ensures text { OnOk result (WritesText W.write_str_gives out.old
+        (option_map encode_utf8_all (unescape (chars text.now))) out.new) }
 {
-    let mut out = String::with_capacity(alloc, text.len())?;
     let mut rest = text;
     while let Some((plain, after)) = rest.split_once('\\') {
-        out.push_str(plain)?;
+        write_part(out, plain)?;
         match escaped(after) {
             Some((c, left)) => {
-                out.push(c)?;
+                out.write_char(c)?;
                 rest = left;
             }
-            None => return Ok(None),
+            None => return Ok(false),
         }
     }
-    out.push_str(rest)?;
-    Ok(Some(out))
+    write_part(out, rest)?;
+    Ok(true)
+}
+
+// Writes what stands between two escapes, which often is nothing.
+#[inline(always)]
+fn write_part<W: fmt::Write>(out: &mut W, text: &str) -> fmt::Result
+    ensures { OnOk result (WritesInCalls W.write_str_gives out.old text.now out.new) }
+{
+    if text.is_empty() {
+        return Ok(());
+    }
+    out.write_str(text)
 }
 
 // The character that the escape after a backslash means, and the text after it; None if there is no escape.

@@ -12,7 +12,9 @@ mod text;
 mod type_literal;
 
 pub use beside_default::{BesideDefault, Held};
+pub use block_string::write_block_string_value;
 pub use default_scalar::DefaultScalarValue;
+pub use escapes::write_string_value;
 pub use input_value::{FromInputValue, InputValue, Variables};
 pub use scalar::{
     FromScalarValue, ParseScalarResult, ParseScalarValue, ReadFailure, Scalar, ScalarValue,

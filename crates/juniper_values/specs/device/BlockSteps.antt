@@ -1,14 +1,22 @@
--- A device: what one character changes while the value of a block string is written.
-use Rattle.std.specs.Prelude.{◌≡◌, ℕ, zero, suc, ◌+◌, ◌==◌, ◌≤◌, ◌<◌, ◌&&◌, ◌||◌, Bool, true, false, List, [], ◌∷◌, get_or, Option, Some, None, min, nat_eq, if◌then◌else◌}
+-- A device: what one character changes while a block string is measured and its value is written.
+use Rattle.std.specs.Prelude.{◌≡◌, ℕ, suc, ◌+◌, ◌==◌, ◌≤◌, ◌<◌, ◌&&◌, ◌||◌, Bool, true, false, List, [], ◌∷◌, map}
+use Rattle.std.specs.Prelude.{take, drop, get_or, Option, Some, None, min, nat_eq, if◌then◌else◌}
 use Rattle.std.specs.List.{starts_with, position_or_len}
 use Rattle.juniper_values.specs.Text.{Text}
 use Rattle.graphql_lexical.specs.Characters.{is_line_end}
 use Rattle.graphql_lexical.specs.Tokens.{mark}
-use Rattle.juniper_values.specs.BlockStrings.{line_feed, is_indent}
-use Rattle.juniper_values.specs.declared.block_string.Line.{Line}
-use Rattle.juniper_values.specs.declared.block_string.Line.TheVariants.{Blank, Filled}
+use Rattle.juniper_values.specs.BlockStrings.{line_feed, with_quotes, lines, is_indent, is_blank, joined}
 use Rattle.juniper_values.specs.declared.block_string.Place.{Place}
 use Rattle.juniper_values.specs.declared.block_string.Place.TheVariants.{First, Indent, AfterIndent}
+
+-- the lines of the text between the quotes
+abbrev pub lines_of : Text → List Text
+lines_of t = lines (with_quotes t)
+
+-- the first line is blank
+abbrev pub begins_blank : List Text → Bool
+begins_blank [] = true
+begins_blank (line ∷ ls) = is_blank line
 
 -- a backslash before a triple quote, and a CR before LF
 abbrev pub is_left_out : ℕ → Text → Bool
@@ -36,20 +44,14 @@ least_after o First c = o
 least_after o (Indent n) c = if is_line_end c || is_indent c then o else Some (lesser o n)
 least_after o AfterIndent c = o
 
--- what is written of a character within a line, and the line after it
-abbrev pub written : Line → ℕ → Text
-written (Blank zero) c = c ∷ []
-written (Blank (suc n)) c = []
-written Filled c = c ∷ []
+-- the lines that are left, without n characters of the first and k of each other
+abbrev pub left : ℕ → ℕ → List Text → List Text
+left n k [] = []
+left n k (line ∷ ls) = drop n line ∷ map (drop k) ls
 
-abbrev pub line_after : Line → ℕ → Line
-line_after (Blank zero) c = if is_indent c then Blank 0 else Filled
-line_after (Blank (suc n)) c = Blank n
-line_after Filled c = Filled
-
-abbrev pub is_filled : Line → Bool
-is_filled (Blank n) = false
-is_filled Filled = true
+-- what is written of them, up to so many line feeds
+abbrev pub left_text : ℕ → ℕ → ℕ → List Text → Text
+left_text k n feeds ls = joined (take (suc feeds) (left n k ls))
 
 -- the place is within the tabs and spaces at the beginning of a line but the first
 abbrev pub is_in_indent : Place → Bool

@@ -10,8 +10,9 @@ use std::simd::prelude::*;
 pub(crate) fn split_run(text: &str) -> (&str, &str)
     ensures run { chars result.0.now ≡ take (run_length (chars text.now)) (chars text.now) }
     ensures after { chars result.1.now ≡ drop (run_length (chars text.now)) (chars text.now) }
-    ensures no_longer { length result.1.now ≤ length text.now }
-    ensures utf8 { IsUtf8 result.1.now }
+    ensures whole { length text.now ≡ length result.0.now + length result.1.now }
+    ensures run_utf8 { IsUtf8 result.0.now }
+    ensures after_utf8 { IsUtf8 result.1.now }
 {
     text.split_at(run_length(text.as_bytes()))
 }
