@@ -258,7 +258,7 @@ static inline const char *firthnapkin_error_detail_name(uint32_t detail) {
  * others leave it as it was.
  *
  * It also returns FIRTHNAPKIN_NOT_UTF8, FIRTHNAPKIN_OUT_OF_MEMORY, FIRTHNAPKIN_SOURCE_TOO_LONG and FIRTHNAPKIN_INVALID_LIMIT.
- * It holds no list of tokens and no tree. */
+ * It holds no list of tokens, no tree and no text. */
 uint32_t firthnapkin_parse(const uint8_t *source, size_t length, const firthnapkin_limits *limits, firthnapkin_node *nodes,
                            size_t nodes_capacity, size_t *nodes_length, uint8_t *texts, size_t texts_capacity,
                            size_t *texts_length, firthnapkin_error *error);

@@ -217,8 +217,8 @@ REQUESTING = {
 SPREAD = ("spaces", "fields")
 
 # Of calls on texts of 1.2 MB: the least and the most bytes that they may hold for each byte of the text. A call that builds the
-# whole tree holds more than is allowed to one that passes on each definition. The library for C holds the meaning of one string,
-# and four bytes for each byte of a text past ASCII; else nothing but what the program that calls it writes its lines with.
+# whole tree holds more than is allowed to one that passes on each definition. The library for C holds four bytes for each byte of
+# a text past ASCII, and else nothing but what the program that calls it writes its lines with.
 HELD = [
     (["run_calls", "calls", "parse", "into"], "definitions", 1, 60),
     (["run_calls", "calls", "parse", "200"], "definitions", 80, 130),
@@ -226,7 +226,10 @@ HELD = [
     (["c", "parse"], "fields in fields", 0, 0.01),
     (["c", "parse"], "types in types", 0, 0.01),
     (["c", "parse"], "strings", 0, 0.01),
-    (["c", "parse"], "a long string", 0.99, 1.01),
+    (["c", "parse"], "a long string", 0, 0.01),
+    (["c", "parse"], "escapes", 0, 0.01),
+    (["c", "parse"], "a block string of many lines", 0, 0.01),
+    (["c", "parse"], "text past ASCII", 4, 4.01),
     (["c", "parse"], "tokens past text past ASCII", 4, 4.01),
     (["c", "parse"], "a fault at the end", 0, 0.01),
     (["c", "parse"], "brackets without an end", 0, 0.01),

@@ -1,10 +1,17 @@
 -- What is built of the parts of a document while they are read. A builder goes from one state to another as it builds a part.
-use Rattle.std.specs.Prelude.{◌≡◌, ℕ, List, [], ◌∷◌, Option, Some, None}
+use Rattle.std.specs.Prelude.{◌≡◌, ℕ, List, [], ◌∷◌, Option, Some, None, Result, Ok, Err}
 use Rattle.graphql_grammar.specs.Tokens.{Word, Located}
 use Rattle.graphql_grammar.specs.Tree.{Scalars, TypeRef, Selection, Selections, selections_of, OptionalSelections}
-use Rattle.graphql_grammar.specs.Tree.{absent, present, Definition}
+use Rattle.graphql_grammar.specs.Tree.{absent, present, Definition, Value, Scalar}
 use Rattle.graphql_grammar.specs.declared.operation.OperationType.{OperationType}
-use Rattle.juniper_tokens.specs.Errors.{Error}
+use Rattle.graphql_lexical.specs.Place.{Span}
+use Rattle.juniper_tokens.specs.Errors.{Error, view_error}
+use Rattle.juniper_tokens.specs.Spans.{view_span}
+use Rattle.juniper_tokens.specs.declared.error.ParseFailure.{ParseFailure}
+use Rattle.juniper_tokens.specs.declared.error.ParseFailure.TheVariants as parses
+use Rattle.juniper_values.specs.Scalar.{Content, Reading}
+use Rattle.juniper_values.specs.declared.scalar.ReadFailure.{ReadFailure}
+use Rattle.juniper_values.specs.declared.scalar.ReadFailure.TheVariants as reads
 use Rattle.juniper.specs.Promise.{HasTree}
 
 -- A part whose children are built next, by what is known of it then.
@@ -42,6 +49,23 @@ module _ {B X A : Type 0} (built : B → B → X → A → Type 0) where
   BuildsOptional old new None (Some p) = ⊥
   BuildsOptional old new (Some x) None = ⊥
   BuildsOptional old new (Some x) (Some p) = built old new x p
+
+-- A scalar type made no scalar of a token of which it states this: the error is the stated one, unless memory ran out.
+abbrev pub FailsReading : Reading → ReadFailure → Type 0
+FailsReading reading (reads.Refused e) = reading ≡ Err (view_error e)
+FailsReading reading reads.Memory = Unit {0}
+
+-- The same of what a parser returns then, with the token's span.
+abbrev pub IsUnread : Reading → Span → ParseFailure → Type 0
+IsUnread reading span (parses.Refused fault) = (reading ≡ Err (view_error fault.item)) × (view_span fault.span ≡ span)
+IsUnread reading span parses.Memory = Unit {0}
+
+-- By the reading of a token with this span its scalar was built, or it wasn't read.
+abbrev pub BuildsRead : {X : Type 0} → (X → Located (Value Content) → Type 0) → Reading → Span
+    → Result X ParseFailure → Type 0
+BuildsRead built reading span (Ok x) =
+    (content : Content) × (reading ≡ Ok content) × built x (record { item = Scalar content; span = span })
+BuildsRead built reading span (Err failure) = IsUnread reading span failure
 
 module _ {B L X A : Type 0} (built : B → B → X → A → Type 0) (gathered : L → List X) where
   -- The same of what a list has gathered.

@@ -1,6 +1,6 @@
 -- Nodes that are written while a source is parsed.
 use Rattle.std.proofs.Common.{◌≡◌, ◌∙◌, ℕ, ◌+◌, ◌-◌, ◌<◌, ◌^◌, List, [], ◌∷◌, ◌++◌, length, set, refl, sym, ap, ap₂}
-use Rattle.std.proofs.Common.{subst, arith, length-append, Option, Some, None}
+use Rattle.std.proofs.Common.{subst, arith, append-nil, length-append, Option, Some, None}
 use Rattle.std.specs.Fmt.{WritesInCalls}
 use Rattle.std.specs.List.{FoldsTo, concat}
 use Rattle.std.specs.Prelude.{encode_utf8_all}
@@ -18,7 +18,7 @@ use Rattle.juniper_nodes.specs.NodeTexts.{node_texts, text_of_node}
 use Rattle.juniper_flat.specs.ByteTables.{IsTableOf}
 use Rattle.juniper_flat.specs.Builders.{with_written, AddsText, KeepsBuffers, Adds, HasNoText, counted, field_nodes}
 use Rattle.juniper_flat.specs.Builders.{PutsNode}
-use Rattle.juniper_flat.specs.Fits.{NodesFit, SpanFits}
+use Rattle.juniper_flat.specs.Fits.{NodeFits, NodesFit, SpanFits}
 use Rattle.juniper_flat.specs.Places.{written_place}
 use Rattle.juniper_flat.specs.Nodes.{byte_count, kind_number, node_extent, written_node, written_nodes}
 use Rattle.juniper_flat.specs.declared.builder.NodeBuilder.{NodeBuilder}
@@ -277,3 +277,42 @@ pub adds_written : (a b : NodeBuilder) (bytes : List ℕ)
     → WritesInCalls (λ (old : NodeBuilder) (bytes : List ℕ) (new : NodeBuilder). AddsText old new bytes) a bytes b
     → AddsText a b bytes
 adds_written a b bytes h = subst (AddsText a b) h.whole (adds_parts h.parts a b h.calls)
+
+-- ---- a node whose text was appended before it
+
+pub adds_leaf : (before now opened new : NodeBuilder) (node : Node Content) (index : ℕ) (value : Stored)
+    → AddsText before now (encode_utf8_all (text_of_node node)) → index ≡ now.nodes_length
+    → Adds (counted now) opened [] → PutsNode opened new → new.nodes.now ≡ set opened.nodes.now index value
+    → ((source : List ℕ) → IsTableOf source opened.table.now → NodeFits before.texts_length node
+    → now.texts_length ≡ before.texts_length + byte_count (text_of_node node)
+    → value ≡ written_node source before.texts_length node)
+    → Adds before new (node ∷ [])
+adds_leaf before now opened new node index value text at opens puts put is = record {
+  keeps = keeps_further before now new text.keeps (keeps_further now opened new kept puts.keeps);
+  written = λ source table fit.
+      let t = text_of_node node in
+      let count = text.texts_count fit.1.0.texts in
+      let there = subst (λ b. IsTableOf source b.now) (sym text.keeps.table) table in
+      let few : now.nodes_length + 1 + 0 < 2 ^ 32 = omega (arith, fit.0, text.nodes_count) in
+      let w = opens.written source there (few, tt) in
+      let node_is = is source (subst (λ b. IsTableOf source b.now) (sym opens.keeps.table) there) fit.1.0 count in
+      record {
+        nodes =
+            put
+            ∙ (ap₂ (λ (b : List Stored) (i : ℕ). set b i value) (w.nodes ∙ text.nodes) (at ∙ text.nodes_count)
+            ∙ ap (λ (v : Stored). set before.nodes.now before.nodes_length v) node_is);
+        nodes_count = omega (arith, puts.nodes_count, w.nodes_count, text.nodes_count);
+        texts =
+            puts.texts
+            ∙ (w.texts ∙ (text.texts fit.1.0.texts
+            ∙ ap (λ (u : List ℕ). with_written before.texts.now before.texts_length (encode_utf8_all u))
+            (sym (append-nil t))));
+        texts_count =
+            puts.texts_count
+            ∙ (omega (arith, w.texts_count, count)
+            ∙ ap (λ (u : List ℕ). before.texts_length + byte_count u) (sym (append-nil t)));
+      };
+}
+  where
+    kept : KeepsBuffers now opened
+    kept = record { table = opens.keeps.table; nodes = opens.keeps.nodes; texts = opens.keeps.texts }

@@ -14,9 +14,11 @@ pub mod Fitting
 pub mod TokenCounts
 pub mod Buffers
 pub mod TokenTexts
+pub mod Lexed
 pub mod HeldTokens
 pub mod CanonicalTexts
 pub mod Quotes
+pub mod ReadScalars
 pub mod Shown
 pub mod Messages
 pub mod Public

@@ -9,7 +9,6 @@ use Rattle.juniper_values.specs.Scalar.{Content}
 use Rattle.juniper_nodes.specs.NodeTexts.{text_of_node, node_texts}
 use Rattle.juniper_flat.specs.Fits.{NodesFit}
 use Rattle.juniper_flat.specs.Nodes.{byte_count, written_node, written_nodes}
-use Rattle.juniper_flat.specs.declared.node.Node.{Node}
 
 -- a text before the end of the source, as long as its bytes are
 pub before_end : (end : ℕ) (text : List ℕ) → IsUtf8 text → end - length text ≡ end - byte_count (chars text)

@@ -1,6 +1,6 @@
 -- What is written into the caller's buffers while a source is parsed.
 use Rattle.std.specs.Prelude.{◌≡◌, ◌+◌, ◌^◌, ◌<◌, ℕ, suc, List, [], ◌∷◌, ◌++◌, length, set, Option, None}
-use Rattle.std.specs.Prelude.{encode_utf8_all}
+use Rattle.std.specs.Prelude.{Result, Ok, Err, encode_utf8_all}
 use Rattle.graphql_lexical.specs.Place.{Span}
 use Rattle.graphql_grammar.specs.Tokens.{Located, Word}
 use Rattle.graphql_grammar.specs.Tree.{Value, Arguments, Directives, Variables, Selections, OptionalSelections}
@@ -9,19 +9,26 @@ use Rattle.graphql_nodes.specs.Nodes.{Node, Label, Named, Typed, over, if_presen
 use Rattle.graphql_nodes.specs.Nodes.{value_nodes, arguments_nodes, directive_nodes, variables_nodes, selection_nodes}
 use Rattle.graphql_nodes.specs.declared.kind.NodeKind.{NodeKind}
 use Rattle.graphql_nodes.specs.declared.kind.NodeKind.TheVariants as kind
-use Rattle.juniper.specs.Building.{BuildsList, BuildsOptional, BuildsOptionalSet, BuildsSet, Opened, a_list, an_object}
+use Rattle.juniper.specs.Building.{FailsReading, BuildsList, BuildsOptional, BuildsOptionalSet, BuildsSet, Opened}
+use Rattle.juniper.specs.Building.{a_list, an_object}
 use Rattle.juniper_complexity.specs.Gathered.{gathered}
 use Rattle.juniper_complexity.specs.declared.outline_builder.PartCount.{PartCount}
 use Rattle.juniper.specs.Building.{an_object_field, some_arguments, an_argument, a_directive, a_field, a_spread}
 use Rattle.juniper.specs.Building.{an_inline_fragment, some_variables, a_variable, an_operation, a_fragment}
 use Rattle.juniper.specs.Promise.{HasTree}
-use Rattle.juniper_values.specs.Scalar.{Content}
+use Rattle.std.specs.Option.{unwrap_or}
+use Rattle.juniper_values.specs.Text.{Text}
+use Rattle.juniper_values.specs.Scalar.{Content, Reading}
+use Rattle.juniper_values.specs.declared.scalar.ReadFailure.{ReadFailure}
+use Rattle.juniper_nodes.specs.Literal.{str_in}
 use Rattle.juniper_nodes.specs.NodeTexts.{node_texts, text_of_label}
 use Rattle.juniper_flat.specs.Answers.{scalars}
 use Rattle.juniper_flat.specs.ByteTables.{IsTableOf}
 use Rattle.juniper_flat.specs.Fits.{NodesFit}
 use Rattle.juniper_flat.specs.Nodes.{byte_count, node_value, written_nodes}
+use Rattle.juniper_flat.specs.Scalars.{content_of}
 use Rattle.juniper_flat.specs.declared.builder.NodeBuilder.{NodeBuilder}
+use Rattle.juniper_flat.specs.declared.form.ScalarForm.{ScalarForm}
 
 -- a buffer with these written into it from an index on, as far as they fit
 abbrev pub with_written : {A : Type 0} → List A → ℕ → List A → List A
@@ -43,6 +50,12 @@ pub record AddsText (old new : NodeBuilder) (bytes : List ℕ) : Type 0 where
   pub nodes_count : new.nodes_length ≡ old.nodes_length
   pub texts : old.texts_length + length bytes < 2 ^ 32 → new.texts.now ≡ with_written old.texts.now old.texts_length bytes
   pub texts_count : old.texts_length + length bytes < 2 ^ 32 → new.texts_length ≡ old.texts_length + length bytes
+
+-- By the reading of a token what its scalar means was appended, which is of this form; or it wasn't read.
+abbrev pub AddsRead : Reading → NodeBuilder → NodeBuilder → Result ScalarForm ReadFailure → Type 0
+AddsRead reading old new (Ok form) = (t : Text) × (reading ≡ Ok (content_of t form))
+    × AddsText old new (encode_utf8_all (unwrap_or (str_in (content_of t form)) []))
+AddsRead reading old new (Err failure) = FailsReading reading failure
 
 -- ---- nodes
 

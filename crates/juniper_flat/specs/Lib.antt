@@ -12,7 +12,6 @@ pub mod Both
 pub mod Fits
 pub mod Builders
 pub mod Sources
-pub mod Steps
 pub mod TokenCounts
 pub mod Tokens
 pub mod CutTokens

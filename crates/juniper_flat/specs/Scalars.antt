@@ -3,10 +3,12 @@ use Rattle.std.specs.Prelude.{[], Ok, Err}
 use Rattle.graphql_lexical.specs.declared.kind.Kind.{Kind}
 use Rattle.graphql_lexical.specs.Kinds.{Spelling, Names, Strings, BlockStrings, Floats, Ints, Fixed, NoText, spelling}
 use Rattle.juniper_values.specs.Text.{Text}
-use Rattle.juniper_values.specs.Scalar.{Content, Reading}
+use Rattle.juniper_values.specs.Scalar.{Content, integer, text, boolean, Reading}
 use Rattle.juniper_values.specs.Default.{default_content, default_reading}
 use Rattle.juniper_values.specs.View.{text_of}
 use Rattle.juniper_nodes.specs.Literal.{string_reading, of_large_int, of_float, of_block}
+use Rattle.juniper_flat.specs.declared.form.ScalarForm.{ScalarForm}
+use Rattle.juniper_flat.specs.declared.form.ScalarForm.TheVariants as form
 use Rattle.juniper_flat.specs.declared.scalar.SourceScalar.{SourceScalar}
 use Rattle.juniper_flat.specs.declared.scalar.SourceScalar.TheVariants as scalar
 
@@ -16,6 +18,15 @@ scalar_content (scalar.Default s) = default_content s
 scalar_content scalar.LargeInt = of_large_int []
 scalar_content scalar.Float = of_float []
 scalar_content (scalar.BlockString t) = of_block [] (text_of t)
+
+-- that of a scalar of this form, which means this text if it is a String or a block string
+abbrev pub content_of : Text → ScalarForm → Content
+content_of t (form.Int n) = integer n
+content_of t form.LargeInt = of_large_int []
+content_of t form.Float = of_float []
+content_of t form.String = text t
+content_of t form.BlockString = of_block [] t
+content_of t (form.Boolean b) = boolean b
 
 -- an Int, by the default type's reading
 abbrev pub int_reading : Reading → Reading

@@ -1,16 +1,17 @@
 //! The nodes of a source, written into buffers while it is parsed.
-ghost use Rattle.std.specs.Prelude.{◌≡◌, ◌∷◌, [], OnOk, option_map, set, encode_utf8_all};
+ghost use Rattle.std.specs.Prelude.{◌≡◌, ◌∷◌, [], ℕ, List, OnOk, option_map, set, encode_utf8_all};
 ghost use Rattle.graphql_nodes.specs.Nodes.{Unnamed, over};
 ghost use Rattle.juniper.specs.View.{view_type};
 ghost use Rattle.juniper_tokens.specs.Spans.{view_span};
+ghost use Rattle.juniper_tokens.specs.Tokens.{scalar_kind, scalar_text};
 ghost use Rattle.juniper_nodes.specs.Literal.{str_in};
 ghost use Rattle.juniper_nodes.specs.NodeTexts.{text_of_node};
 ghost use Rattle.std.specs.Option.{unwrap_or};
 ghost use Rattle.std.specs.Str.{chars};
 ghost use Rattle.graphql_nodes.specs.Types.{type_text};
 ghost use Rattle.juniper_nodes.specs.NodeViews.{view_label};
-ghost use Rattle.juniper_flat.specs.Builders.{Adds, AddsText, Closes, HasNoText, PutsNode, counted, leaf};
-ghost use Rattle.juniper_flat.specs.Scalars.{scalar_content};
+ghost use Rattle.juniper_flat.specs.Builders.{Adds, AddsRead, AddsText, Closes, HasNoText, PutsNode, counted, leaf};
+ghost use Rattle.juniper_flat.specs.Scalars.{content_of, scalar_content, scalar_reading};
 ghost use Rattle.juniper_flat.specs.declared.builder.NodeBuilder.{NodeBuilder as Writer};
 
 pub(crate) mod both;
@@ -19,11 +20,13 @@ mod building;
 use crate::buffer::write_bytes;
 use crate::byte_table::ByteTable;
 use crate::flat::Lengths;
+use crate::form::{ScalarForm, form_of};
 use crate::node::{Node, written_node};
-use crate::scalar::SourceScalar;
-use juniper::{ScalarValue, Span, Type};
+use crate::scalar::{SourceScalar, read_int};
+use juniper::{ParseScalarValue, ReadFailure, ScalarToken, ScalarValue, Span, Type};
 use juniper_nodes::{Label, NodeKind};
-use std::alloc::AllocError;
+use juniper_values::{write_block_string_value, write_string_value};
+use std::alloc::{AllocError, Global};
 use std::fmt;
 use std::fmt::Write;
 
@@ -133,16 +136,16 @@ impl NodeBuilder<'_> {
         kind: NodeKind,
         span: &'t Span,
         label: Label<'t, '_>,
-        scalar: Option<&'t SourceScalar>,
+        form: Option<&'t ScalarForm>,
         at: usize,
     )
-        ensures { (before : Writer) → let node = leaf kind (view_span span.now) (view_label (view_span span.now) label.entry) (option_map (λ scalar. scalar_content scalar.now) scalar.entry) in AddsText before self.old (encode_utf8_all (text_of_node node)) → at ≡ before.texts_length → Adds before self.new (node ∷ []) }
+        ensures { (before : Writer) (text : List ℕ) → let node = leaf kind (view_span span.now) (view_label (view_span span.now) label.entry) (option_map (λ form. content_of text form.now) form.entry) in AddsText before self.old (encode_utf8_all (text_of_node node)) → at ≡ before.texts_length → Adds before self.new (node ∷ []) }
     {
         let node = juniper_nodes::Node {
             kind,
             span,
             label,
-            scalar,
+            scalar: form,
             descendants: 0,
         };
         let length = self.texts_length.saturating_sub(at);
@@ -183,6 +186,31 @@ impl NodeBuilder<'_> {
         match scalar.try_as_str() {
             Some(text) => self.push_text(text),
             None => {}
+        }
+    }
+
+    // Appends to the texts what a token means that is a String or a block string, and returns the form of its scalar; or
+    // returns why the scalar type refuses the token. Writing there never fails.
+    fn push_token(
+        &mut self,
+        alloc: Global,
+        token: ScalarToken<'_>,
+    ) -> Result<ScalarForm, ReadFailure>
+        ensures { AddsRead (scalar_reading (scalar_kind token.entry) (scalar_text token.entry)) self.old self.new result }
+    {
+        match token {
+            ScalarToken::String(text) => match write_string_value(self, text) {
+                Ok(true) => Ok(ScalarForm::String),
+                // The scalar type has the error.
+                Ok(false) => Ok(form_of(&SourceScalar::from_str(alloc, token)?)),
+                Err(_) => Err(ReadFailure::Memory),
+            },
+            ScalarToken::BlockString(text) => match write_block_string_value(self, text) {
+                Ok(()) => Ok(ScalarForm::BlockString),
+                Err(_) => Err(ReadFailure::Memory),
+            },
+            ScalarToken::Int(text) => Ok(form_of(&read_int(text))),
+            ScalarToken::Float(_) => Ok(ScalarForm::Float),
         }
     }
 

@@ -9,9 +9,8 @@ ghost use Rattle.juniper_flat.specs.TokenCounts.{ReturnsCounted};
 use crate::byte_table::ByteTable;
 use crate::fault::{Fault, many_fault};
 use crate::source::{Unread, text_of};
-use crate::step::{Step, next_step};
 use juniper::Span;
-use juniper_tokens::Lexer;
+use juniper_tokens::{Kind, LexFailure, Lexer};
 use std::alloc::{AllocError, Global};
 
 /// Whether a source has more tokens than a limit.
@@ -39,17 +38,20 @@ fn count_of_text(alloc: Global, text: &str, most: u32) -> Result<Counted, Unread
     let mut lexer = Lexer::new(alloc, text);
     let mut left = most;
     loop {
-        match next_step::<Counted>(&mut lexer) {
-            Step::Token(_, span) => {
+        match lexer.next() {
+            Some(Ok(token)) => {
+                if token.item.kind() == Kind::EndOfFile {
+                    return Ok(Counted::Few);
+                }
                 if left == 0 {
-                    return Ok(Counted::Many(reported(alloc, text, span)?));
+                    return Ok(Counted::Many(reported(alloc, text, token.span)?));
                 }
                 left -= 1;
             }
-            Step::End(_) => return Ok(Counted::Few),
             // Nothing after an error is a token.
-            Step::Fault(_) => return Ok(Counted::Few),
-            Step::Memory => return Err(Unread::OutOfMemory),
+            Some(Err(LexFailure::Fault(_fault))) => return Ok(Counted::Few),
+            Some(Err(LexFailure::Memory)) => return Err(Unread::OutOfMemory),
+            None => unreachable!(),
         }
     }
 }

@@ -12,12 +12,12 @@ ghost use Rattle.juniper_flat.specs.Fits.{NodeFits};
 ghost use Rattle.juniper_flat.specs.ByteTables.{IsTableOf};
 ghost use Rattle.juniper_flat.specs.Places.{bytes_before};
 ghost use Rattle.juniper_flat.specs.Nodes.{kind_number, node_number, content_number, byte_count, word_extent, span_extent, no_extent, unnamed_extent, node_extent, scalar_value, condition_value, node_value, written_node};
-ghost use Rattle.juniper_flat.specs.Scalars.{scalar_content};
+ghost use Rattle.juniper_flat.specs.Scalars.{content_of};
 
 use crate::byte_table::ByteTable;
+use crate::form::ScalarForm;
 use crate::place::{Place, in_word, place_at};
-use crate::scalar::SourceScalar;
-use juniper::{DefaultScalarValue, Spanning};
+use juniper::Spanning;
 use juniper_nodes::{Label, NodeKind};
 
 /// A part of a document.
@@ -63,11 +63,11 @@ const NO_VALUE: Value = Value {
 #[inline(always)]
 pub(crate) fn written_node(
     table: &ByteTable,
-    node: &juniper_nodes::Node<'_, '_, SourceScalar>,
+    node: &juniper_nodes::Node<'_, '_, ScalarForm>,
     at: usize,
     length: usize,
 ) -> Node
-    ensures { (source : List ℕ) → IsTableOf source table.now → NodeFits at (view_node scalar_content node.now) → length ≡ byte_count (text_of_node (view_node scalar_content node.now)) → result ≡ written_node source at (view_node scalar_content node.now) }
+    ensures { (source text : List ℕ) → let seen = view_node (content_of text) node.now in IsTableOf source table.now → NodeFits at seen → length ≡ byte_count (text_of_node seen) → result ≡ written_node source at seen }
 {
     let start = place_at(table, node.span.start);
     let end = place_at(table, node.span.end);
@@ -95,12 +95,12 @@ pub(crate) fn written_node(
 // ---- kinds
 
 #[inline(always)]
-fn node_number(kind: NodeKind, scalar: Option<&SourceScalar>) -> u32
-    ensures { result ≡ node_number kind (option_map (λ scalar. scalar_content scalar.now) scalar.entry) }
+fn node_number(kind: NodeKind, form: Option<&ScalarForm>) -> u32
+    ensures { (text : List ℕ) → result ≡ node_number kind (option_map (λ form. content_of text form.now) form.entry) }
 {
-    match scalar {
+    match form {
         None => kind_number(kind),
-        Some(scalar) => scalar_number(scalar),
+        Some(form) => form_number(form),
     }
 }
 
@@ -134,16 +134,16 @@ fn kind_number(kind: NodeKind) -> u32
     }
 }
 
-fn scalar_number(scalar: &SourceScalar) -> u32
-    ensures { result ≡ content_number (scalar_content scalar.now) }
+fn form_number(form: &ScalarForm) -> u32
+    ensures { (text : List ℕ) → result ≡ content_number (content_of text form.now) }
 {
-    match scalar {
-        SourceScalar::Default(DefaultScalarValue::Int(_)) => 20,
-        SourceScalar::LargeInt => 21,
-        SourceScalar::Float => 22,
-        SourceScalar::Default(DefaultScalarValue::String(_)) => 23,
-        SourceScalar::BlockString(_) => 24,
-        SourceScalar::Default(DefaultScalarValue::Boolean(_)) => 25,
+    match form {
+        ScalarForm::Int(_) => 20,
+        ScalarForm::LargeInt => 21,
+        ScalarForm::Float => 22,
+        ScalarForm::String => 23,
+        ScalarForm::BlockString => 24,
+        ScalarForm::Boolean(_) => 25,
     }
 }
 
@@ -153,7 +153,7 @@ fn scalar_number(scalar: &SourceScalar) -> u32
 #[inline(always)]
 fn extent_of(
     table: &ByteTable,
-    node: &juniper_nodes::Node<'_, '_, SourceScalar>,
+    node: &juniper_nodes::Node<'_, '_, ScalarForm>,
     whole: Extent,
 ) -> Extent
     ensures { (source : List ℕ) → IsTableOf source table.now → whole ≡ span_extent source (view_span node.now.span.now) → result ≡ node_extent source node.now.kind (view_span node.now.span.now) (view_label (view_span node.now.span.now) node.now.label) }
@@ -225,11 +225,11 @@ fn text_extent(end: u32, text: &str) -> Extent
 #[inline(always)]
 fn value_of(
     table: &ByteTable,
-    node: &juniper_nodes::Node<'_, '_, SourceScalar>,
+    node: &juniper_nodes::Node<'_, '_, ScalarForm>,
     at: usize,
     length: usize,
 ) -> Value
-    ensures { (source : List ℕ) → IsTableOf source table.now → let seen = view_node scalar_content node.now in at + length < 2 ^ 32 → length ≡ byte_count (text_of_node seen) → result ≡ node_value source at seen.content seen.label }
+    ensures { (source text : List ℕ) → IsTableOf source table.now → let seen = view_node (content_of text) node.now in at + length < 2 ^ 32 → length ≡ byte_count (text_of_node seen) → result ≡ node_value source at seen.content seen.label }
 {
     match node.label {
         Label::Fragment(_, condition) => condition_value(word_extent(table, condition)),
@@ -239,21 +239,20 @@ fn value_of(
 }
 
 #[inline(always)]
-fn scalar_value(scalar: Option<&SourceScalar>, at: usize, length: usize) -> Value
-    ensures { let content = option_map (λ scalar. scalar_content scalar.now) scalar.entry in at + length < 2 ^ 32 → length ≡ byte_count (unwrap_or (option_and_then str_in content) []) → result ≡ scalar_value at content }
+fn scalar_value(form: Option<&ScalarForm>, at: usize, length: usize) -> Value
+    ensures { (text : List ℕ) → let content = option_map (λ form. content_of text form.now) form.entry in at + length < 2 ^ 32 → length ≡ byte_count (unwrap_or (option_and_then str_in content) []) → result ≡ scalar_value at content }
 {
-    match scalar {
-        Some(SourceScalar::Default(DefaultScalarValue::Int(number))) => Value {
+    match form {
+        Some(ScalarForm::Int(number)) => Value {
             number: i64::from(*number),
             length: 0,
         },
-        Some(SourceScalar::Default(DefaultScalarValue::Boolean(truth))) => Value {
+        Some(ScalarForm::Boolean(truth)) => Value {
             number: if *truth { 1 } else { 0 },
             length: 0,
         },
-        Some(SourceScalar::Default(DefaultScalarValue::String(_)) | SourceScalar::BlockString(_)) =>
-            { text_value(at, length) }
-        Some(SourceScalar::LargeInt | SourceScalar::Float) | None => NO_VALUE,
+        Some(ScalarForm::String | ScalarForm::BlockString) => text_value(at, length),
+        Some(ScalarForm::LargeInt | ScalarForm::Float) | None => NO_VALUE,
     }
 }
 

@@ -1,10 +1,10 @@
 //! A scalar type that keeps what a token means, and not how it is written.
-ghost use Rattle.std.specs.Prelude.{◌≡◌, [], Ok, Some};
+ghost use Rattle.std.specs.Prelude.{◌≡◌, [], Ok, Some, None};
 ghost use Rattle.std.specs.Str.{chars, encode_utf8_all};
 ghost use Rattle.graphql_lexical.specs.declared.kind.Kind.TheVariants.{Int, BlockString as Block};
 ghost use Rattle.juniper_values.specs.Default.{default_reading};
 ghost use Rattle.juniper_values.specs.Scalar.{MeetsReading, same_content};
-ghost use Rattle.juniper_nodes.specs.Literal.{literal_shown, string_reading, of_block};
+ghost use Rattle.juniper_nodes.specs.Literal.{literal_shown, str_in, string_reading, of_block};
 ghost use Rattle.juniper_flat.specs.Scalars.{scalar_content, int_reading};
 
 use juniper::{
@@ -99,8 +99,10 @@ impl ParseScalarValue<SourceScalar> for SourceScalar {
     }
 }
 
-fn read_int(text: &str) -> SourceScalar
-    ensures { int_reading (default_reading Int (chars text.now)) ≡ Ok (scalar_content result) }
+// An Int, by its number or as one beyond 32 bits.
+pub(crate) fn read_int(text: &str) -> SourceScalar
+    ensures reads { int_reading (default_reading Int (chars text.now)) ≡ Ok (scalar_content result) }
+    ensures no_text { str_in (scalar_content result) ≡ None }
 {
     match text.parse::<i32>() {
         Ok(value) => SourceScalar::Default(DefaultScalarValue::Int(value)),

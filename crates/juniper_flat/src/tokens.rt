@@ -6,9 +6,8 @@ use crate::buffer::put;
 use crate::byte_table::ByteTable;
 use crate::fault::{Fault, lexical_fault, many_fault};
 use crate::source::{Unread, text_of};
-use crate::step::{Step, next_step};
 use crate::token::{Token, token_at};
-use juniper_tokens::{Kind, Lexer};
+use juniper_tokens::{Kind, LexFailure, Lexer};
 use std::alloc::Global;
 
 /// Which tokens of a source have been put into a buffer, as far as it has capacity for them.
@@ -49,23 +48,25 @@ fn tokens_of_text(
     let mut lexer = Lexer::new(alloc, text);
     let mut count = 0;
     loop {
-        match next_step::<Token>(&mut lexer) {
-            Step::Token(kind, span) => {
-                if count == most as usize {
-                    return Ok(Written::Many(many_fault(&table, span)));
+        match lexer.next() {
+            Some(Ok(token)) => {
+                let kind = token.item.kind();
+                if kind == Kind::EndOfFile {
+                    put(buffer, count, token_at(&table, kind, &token.span));
+                    return Ok(Written::Tokens(count + 1));
                 }
-                put(buffer, count, token_at(&table, kind, &span));
+                if count == most as usize {
+                    return Ok(Written::Many(many_fault(&table, token.span)));
+                }
+                put(buffer, count, token_at(&table, kind, &token.span));
                 count += 1;
             }
-            Step::End(span) => {
-                put(buffer, count, token_at(&table, Kind::EndOfFile, &span));
-                return Ok(Written::Tokens(count + 1));
-            }
-            Step::Fault(fault) => {
+            Some(Err(LexFailure::Fault(fault))) => {
                 let found = lexical_fault(&table, &fault.item, fault.span.start);
                 return Ok(Written::Refused(count, found));
             }
-            Step::Memory => return Err(Unread::OutOfMemory),
+            Some(Err(LexFailure::Memory)) => return Err(Unread::OutOfMemory),
+            None => unreachable!(),
         }
     }
 }

@@ -4,15 +4,16 @@ ghost use Rattle.graphql_grammar.specs.Tokens.{Located, Word};
 ghost use Rattle.graphql_grammar.specs.Tree as tree;
 ghost use Rattle.graphql_grammar.specs.Tree.{Value as Seen, Null, Scalar as SeenScalar, Enum, Variable, ListOf, Object, items_of, fields_of, TypeRef};
 ghost use Rattle.juniper_tokens.specs.Spans.{view_span};
-ghost use Rattle.juniper_values.specs.Scalar.{Content};
+ghost use Rattle.juniper_tokens.specs.Tokens.{scalar_kind, scalar_text};
+ghost use Rattle.juniper_values.specs.Scalar.{Content, Reading};
 ghost use Rattle.juniper_values.specs.View.{view_located};
-ghost use Rattle.juniper.specs.Building.{Opened, a_list, an_object, an_object_field, some_arguments, an_argument, a_directive, a_field, a_spread, an_inline_fragment, some_variables, a_variable, an_operation, a_fragment, BuildsEach, BuildsList, BuildsOptional, BuildsOptionalSet, BuildsSet};
+ghost use Rattle.juniper.specs.Building.{Opened, a_list, an_object, an_object_field, some_arguments, an_argument, a_directive, a_field, a_spread, an_inline_fragment, some_variables, a_variable, an_operation, a_fragment, BuildsEach, BuildsList, BuildsOptional, BuildsOptionalSet, BuildsRead, BuildsSet, FailsReading, IsUnread};
 ghost use Rattle.juniper.specs.View.{type_of};
 
 use crate::parser::lists::push_item;
 use graphql_grammar::OperationType;
-use juniper_tokens::{Feed, SourceText, Span, Spanning};
-use juniper_values::{NameText, ParseScalarValue, Type};
+use juniper_tokens::{Feed, ParseFailure, ScalarToken, SourceText, Span, Spanning};
+use juniper_values::{NameText, ParseScalarValue, ReadFailure, Type};
 use std::alloc::{AllocError, Global};
 
 /// A list that gathers parts.
@@ -41,6 +42,16 @@ impl<X: Drop> Gather<X> for Vec<X> {
     #[inline(always)]
     fn gather(&mut self, part: X, expected: usize) -> Result<(), AllocError> {
         push_item(self, part, expected)
+    }
+}
+
+/// The failure of a parser at a token with this span, of which its scalar type made no scalar.
+pub fn unread(failure: ReadFailure, span: Span) -> ParseFailure
+    ensures { (reading : Reading) → FailsReading reading failure → IsUnread reading (view_span span) result }
+{
+    match failure {
+        ReadFailure::Refused(error) => ParseFailure::Refused(Spanning::new(span, error)),
+        ReadFailure::Memory => ParseFailure::Memory,
     }
 }
 
@@ -117,9 +128,18 @@ pub trait Builder<S: ParseScalarValue<S>> {
     fn null(&mut self, span: Span) -> Result<Self::Value, AllocError>
         ensures { IfOk result (λ value. builds_value self.old self.new value (record { item = Null; span = view_span span })) };
 
-    /// Builds a scalar.
+    /// Builds a scalar that no token is read for.
     fn scalar(&mut self, scalar: S, span: Span) -> Result<Self::Value, AllocError>
         ensures { IfOk result (λ value. builds_value self.old self.new value (record { item = SeenScalar (S.content scalar); span = view_span span })) };
+
+    /// Builds what a scalar token means to the scalar type. If the type refuses it, returns that error with the token's span.
+    fn scalar_token(
+        &mut self,
+        alloc: Global,
+        token: ScalarToken<'_>,
+        span: Span,
+    ) -> Result<Self::Value, ParseFailure>
+        ensures { BuildsRead (builds_value self.old self.new) (S.reading (scalar_kind token.entry) (scalar_text token.entry)) (view_span span) result };
 
     /// Builds an enum value.
     fn enum_value(&mut self, name: Self::Name, span: Span) -> Result<Self::Value, AllocError>

@@ -23,7 +23,7 @@ use juniper_tokens::text::same_text;
 use juniper_tokens::{
     Cursor, Feed, Kind, ParseFailure, ParseResult, Parser, ScalarToken, SourceText, Spanning,
 };
-use juniper_values::{InputValue, ParseScalarValue, ReadFailure, ScalarValue};
+use juniper_values::{InputValue, ScalarValue};
 use std::alloc::AllocError;
 
 /// Parses the prefix of the tokens that is a value; a constant one has no variables (GraphQL specification, October
@@ -231,16 +231,9 @@ fn parse_scalar<S: ScalarValue, B: Builder<S>>(
     let Some(token) = next_scalar(tokens) else {
         return tokens.refuse();
     };
-    let read = S::from_str(tokens.allocator(), token);
-    let span = tokens.span();
+    let built = builder.scalar_token(tokens.allocator(), token, tokens.span());
     tokens.advance();
-    match read {
-        Ok(scalar) => Ok(builder.scalar(scalar, span)?),
-        Err(ReadFailure::Refused(error)) => {
-            Err(ParseFailure::Refused(Spanning::new(span, error)))
-        }
-        Err(ReadFailure::Memory) => Err(ParseFailure::Memory),
-    }
+    built
 }
 
 /// The next token, if it is a scalar one. It is not taken.

@@ -11,14 +11,14 @@ ghost use Rattle.juniper.specs.NamedVariables.{gathered_variables, view_named};
 ghost use Rattle.juniper.specs.View.{view_value, view_object_field, view_word, view_spanned_type, view_argument, view_arguments, view_directive, view_selection, view_variables, view_definition};
 ghost use Rattle.juniper.specs.declared.tree.trees.Trees.{Trees};
 
-use crate::parser::builder::{Builder, Gather};
+use crate::parser::builder::{Builder, Gather, unread};
 use crate::parser::lists::push_item;
 use crate::tree::ast::{
     Arguments, Definition, Directive, Field, Fragment, FragmentSpread, InlineFragment, Operation,
     Selection, VariableDefinition, VariableDefinitions,
 };
 use graphql_grammar::OperationType;
-use juniper_tokens::{Listed, Span, Spanning};
+use juniper_tokens::{Listed, ParseResult, ScalarToken, Span, Spanning};
 use juniper_values::{InputValue, ScalarValue, Type};
 use std::alloc::{AllocError, Global};
 use std::marker::PhantomData;
@@ -151,6 +151,19 @@ impl<'a, S: ScalarValue> Builder<S> for Trees<'a> {
     #[inline(always)]
     fn scalar(&mut self, scalar: S, span: Span) -> Result<Spanning<InputValue<S>>, AllocError> {
         Ok(Spanning::new(span, InputValue::Scalar(scalar)))
+    }
+
+    #[inline(always)]
+    fn scalar_token(
+        &mut self,
+        alloc: Global,
+        token: ScalarToken<'_>,
+        span: Span,
+    ) -> ParseResult<InputValue<S>> {
+        match S::from_str(alloc, token) {
+            Ok(scalar) => Ok(Spanning::new(span, InputValue::Scalar(scalar))),
+            Err(failure) => Err(unread(failure, span)),
+        }
     }
 
     #[inline(always)]

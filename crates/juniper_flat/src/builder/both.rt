@@ -14,9 +14,9 @@ ghost use Rattle.juniper_flat.specs.declared.builder.both.NodesAndOutlines.{Node
 
 use crate::builder::NodeBuilder;
 use crate::scalar::SourceScalar;
-use juniper::{Builder, OperationType, Span, Spanning, Streamed, Type};
+use juniper::{Builder, OperationType, ParseFailure, ScalarToken, Span, Spanning, Streamed, Type};
 use juniper_complexity::{DefinitionOutline, DefinitionOutlines, OutlineBuilder, PartCount};
-use std::alloc::AllocError;
+use std::alloc::{AllocError, Global};
 
 /// A part that is opened: the index of its node, and the number of fields around it.
 #[derive(Clone, Copy)]
@@ -103,6 +103,16 @@ impl<'b> Builder<SourceScalar> for NodesAndOutlines<'b> {
     #[inline(always)]
     fn scalar(&mut self, scalar: SourceScalar, span: Span) -> Result<(), AllocError> {
         self.nodes.scalar(scalar, span)
+    }
+
+    #[inline(always)]
+    fn scalar_token(
+        &mut self,
+        alloc: Global,
+        token: ScalarToken<'_>,
+        span: Span,
+    ) -> Result<(), ParseFailure> {
+        self.nodes.scalar_token(alloc, token, span)
     }
 
     #[inline(always)]

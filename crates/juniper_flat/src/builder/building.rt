@@ -14,11 +14,14 @@ ghost use Rattle.juniper_values.specs.Scalar.{Content};
 ghost use Rattle.juniper.specs.Building.{a_directive, a_field, a_spread, an_inline_fragment, a_variable, an_operation, a_fragment};
 
 use crate::builder::NodeBuilder;
+use crate::form::form_of;
 use crate::scalar::SourceScalar;
-use juniper::{Builder, OperationType, Span, Spanning, Streamed, Type};
+use juniper::{
+    Builder, OperationType, ParseFailure, ScalarToken, Span, Spanning, Streamed, Type, unread,
+};
 use juniper_complexity::PartCount;
 use juniper_nodes::{Label, NodeKind};
-use std::alloc::AllocError;
+use std::alloc::{AllocError, Global};
 
 // The label of a part that may have a name.
 #[inline(always)]
@@ -114,8 +117,26 @@ impl<'b> Builder<SourceScalar> for NodeBuilder<'b> {
     fn scalar(&mut self, scalar: SourceScalar, span: Span) -> Result<(), AllocError> {
         let at = self.texts_length;
         self.push_scalar(&scalar);
-        self.push_with_text(NodeKind::Scalar, &span, Label::Unnamed, Some(&scalar), at);
+        let form = form_of(&scalar);
+        self.push_with_text(NodeKind::Scalar, &span, Label::Unnamed, Some(&form), at);
         Ok(())
+    }
+
+    #[inline(always)]
+    fn scalar_token(
+        &mut self,
+        alloc: Global,
+        token: ScalarToken<'_>,
+        span: Span,
+    ) -> Result<(), ParseFailure> {
+        let at = self.texts_length;
+        match self.push_token(alloc, token) {
+            Ok(form) => {
+                self.push_with_text(NodeKind::Scalar, &span, Label::Unnamed, Some(&form), at);
+                Ok(())
+            }
+            Err(failure) => Err(unread(failure, span)),
+        }
     }
 
     #[inline(always)]

@@ -6,8 +6,8 @@ use Rattle.juniper_tokens.specs.Lexing.{passed, ahead}
 use Rattle.juniper_tokens.specs.Counting.{HasFew, HasMore}
 use Rattle.juniper_flat.proofs.count.count_of_text.Given as goal
 
-abbrev pub invariant-loop-span : goal.invariant-loop-span
-invariant-loop-span l = record {
+abbrev pub invariant-loop-token : goal.invariant-loop-token
+invariant-loop-token l = record {
   source : l.lexer.source ≡ chars l.fn.text;
   going : l.lexer.ended ≡ false;
   whole : passed (chars l.fn.text) l.lexer.index ++ ahead (chars l.fn.text) l.lexer.index ≡ chars l.fn.text;
@@ -20,5 +20,5 @@ invariant-loop-span l = record {
       → HasMore [] (chars l.fn.text) l.fn.most span;
 }
 
-abbrev pub decreases-loop-span : goal.decreases-loop-span
-decreases-loop-span l = l.left
+abbrev pub decreases-loop-token : goal.decreases-loop-token
+decreases-loop-token l = l.left

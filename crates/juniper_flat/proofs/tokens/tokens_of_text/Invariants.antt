@@ -4,11 +4,11 @@ use Rattle.std.specs.Str.{chars}
 use Rattle.juniper_flat.proofs.HeldTokens.{Held}
 use Rattle.juniper_flat.proofs.tokens.tokens_of_text.Given as goal
 
-abbrev pub invariant-loop-kind : goal.invariant-loop-kind
-invariant-loop-kind l = record {
+abbrev pub invariant-loop-token : goal.invariant-loop-token
+invariant-loop-token l = record {
   held : Held (chars l.fn.text) l.fn.buffer l.lexer l.buffer l.count;
   few : l.count ≤ l.fn.most;
 }
 
-abbrev pub decreases-loop-kind : goal.decreases-loop-kind
-decreases-loop-kind l = l.fn.most - l.count
+abbrev pub decreases-loop-token : goal.decreases-loop-token
+decreases-loop-token l = l.fn.most - l.count

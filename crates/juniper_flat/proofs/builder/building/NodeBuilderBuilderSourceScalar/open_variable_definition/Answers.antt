@@ -1,4 +1,4 @@
-use Rattle.std.proofs.Common.{refl}
+use Rattle.std.proofs.Common.{[], refl}
 use Rattle.juniper_flat.specs.Builders.{counted}
 use Rattle.juniper_flat.proofs.Builders.{adds_more}
 use Rattle.juniper_flat.proofs.builder.building.NodeBuilderBuilderSourceScalar.open_variable_definition.Goals as goal
@@ -7,5 +7,5 @@ pub returns : goal.returns
 returns c = record {
   index_is = c.open-part.ensures.index;
   adds = adds_more (counted c.args.self.now) c.open-part.new.self c.push_with_text.new.self _ _ c.open-part.ensures.adds
-      (c.push_with_text.ensures c.open-part.new.self c.in_ok-push_type.ensures refl);
+      (c.push_with_text.ensures c.open-part.new.self [] c.in_ok-push_type.ensures refl);
 }
