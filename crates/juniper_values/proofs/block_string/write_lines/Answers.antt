@@ -81,4 +81,3 @@ loop-c-smaller g c =
     some_run c.in-Some.c (chars c.in-Some.after.now) _ _ c.in-Some.ensures.parts
     (goes_on_in_run c.in-Some.c c.if-c-eq92.false on) run.run in
     omega (arith, run.whole, some_bytes _ _ _ first)
-
