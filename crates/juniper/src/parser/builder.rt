@@ -45,7 +45,7 @@ impl<X: Drop> Gather<X> for Vec<X> {
     }
 }
 
-/// The failure of a parser at a token with this span, of which its scalar type made no scalar.
+/// What a builder returns for a token with this span of which its scalar type made no scalar.
 pub fn unread(failure: ReadFailure, span: Span) -> ParseFailure
     ensures { (reading : Reading) → FailsReading reading failure → IsUnread reading (view_span span) result }
 {
@@ -132,7 +132,10 @@ pub trait Builder<S: ParseScalarValue<S>> {
     fn scalar(&mut self, scalar: S, span: Span) -> Result<Self::Value, AllocError>
         ensures { IfOk result (λ value. builds_value self.old self.new value (record { item = SeenScalar (S.content scalar); span = view_span span })) };
 
-    /// Builds what a scalar token means to the scalar type. If the type refuses it, returns that error with the token's span.
+    /// Builds what a scalar token means to the scalar type (GraphQL specification, October 2021, section 2.9).
+    ///
+    /// If the type refuses it, returns `Refused` with the type's error and the token's span. If memory runs out, it returns
+    /// `Memory` in place of `AllocError`. `unread` makes either of what the type's `from_str` returned.
     fn scalar_token(
         &mut self,
         alloc: Global,
