@@ -98,7 +98,7 @@ KINDS = {
     "KEY": "OBJECT_FIELD",
 }
 kinds = {upper(w): int(n) for w, n in re.findall(r"NodeKind::(\w+) => (\d+),", source("node"))}
-scalars = {upper(w): int(n) for w, n in re.findall(r"Scalar(?:Value)?::(\w+)(?:\(_\)+)? => (\d+),", source("node"))}
+scalars = {upper(w): int(n) for w, n in re.findall(r"ScalarForm::(\w+)(?:\(_\))? => (\d+),", source("node"))}
 check("the number of a scalar, which no node has", kinds.pop("SCALAR"), len(kinds) + len(scalars))
 named = re.findall(r"^    (\w+),$", re.search(r"pub enum NodeKind \{(.*?)\n\}", read("crates/graphql_nodes/src/kind.rt"), re.S)[1], re.M)
 check("the order of kinds", list(kinds), [upper(name) for name in named if name != "Scalar"])
