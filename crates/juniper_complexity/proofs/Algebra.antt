@@ -29,9 +29,6 @@ pub capped_plus : (a b : Complexity)
     → plus_capped (capped_complexity a) (capped_complexity b) ≡ capped_complexity (plus a b)
 capped_plus a b = same_complexity _ _ (omega arith) (omega arith) (omega arith) (omega arith) (omega arith)
 
-capped_zero : capped zero ≡ zero
-capped_zero = refl
-
 pub at_capped_level : (l : ℕ) (a : Complexity)
     → at_level_capped (capped l) (capped_complexity a) ≡ capped_complexity (at_level l a)
 at_capped_level zero a = refl

@@ -1,5 +1,6 @@
 -- What the walk over outlines finds, in the words of the document.
-use Rattle.std.proofs.Common.{◌≡◌, ◌<◌, ◌+◌, ℕ, zero, suc, true, false, List, [], ◌∷◌, ◌++◌, map, length, Option, Some, None, Result, Ok, Err, refl, ap, sym, subst, ◌∙◌, arith, Bool, cond}
+use Rattle.std.proofs.Common.{◌≡◌, ◌<◌, ◌+◌, ℕ, zero, suc, true, false, List, [], ◌∷◌, map, length, Option, Some, None}
+use Rattle.std.proofs.Common.{Result, Ok, Err, refl, ap, sym, subst, ◌∙◌, arith, Bool, cond}
 use Rattle.std.specs.List.{slice_get, position_from}
 use Rattle.std.specs.Result.{IsErrAnd}
 use Rattle.graphql_grammar.specs.Tokens.{Text}
@@ -7,17 +8,20 @@ use Rattle.graphql_grammar.specs.Tree.{Definition}
 use Rattle.juniper_tokens.specs.Spans.{view_span}
 use Rattle.juniper_complexity.specs.Complexities.{plus, capped, capped_complexity}
 use Rattle.juniper_complexity.specs.device.Sums.{at_level, plus_capped, at_level_capped}
-use Rattle.juniper_complexity.specs.device.Walk.{OutlineHas, outline_has, AddsUpTo, no_spread, spread_first, Breaks, names_none, names_outer, breaks_within, breaks_after, BreaksAt, IsBroken, AreInRange}
-use Rattle.juniper_complexity.specs.Parts.{Reference, spreads_of_definition, is_operation, is_fragment_named, fragment_at}
-use Rattle.juniper_complexity.specs.device.BySpreads.{own_of_definition, HasBySpreads, has_by_spreads, SpreadsAdd, none_adds, first_adds}
-use Rattle.juniper_complexity.specs.Faults.{EarlierHave, SpreadFault, OfCycle, OfUnknown, CannotExpand, of_none, of_outer, in_fragment, in_others}
+use Rattle.juniper_complexity.specs.device.Walk.{Outline, Spread, OutlineHas, outline_has, AddsUpTo, no_spread}
+use Rattle.juniper_complexity.specs.device.Walk.{spread_first, Breaks}
+use Rattle.juniper_complexity.specs.device.Walk.{names_none, names_outer, breaks_within, breaks_after, BreaksAt}
+use Rattle.juniper_complexity.specs.device.Walk.{IsBroken}
+use Rattle.juniper_complexity.specs.Parts.{Reference, spreads_of_definition, is_operation, fragment_at}
+use Rattle.juniper_complexity.specs.device.BySpreads.{own_of_definition, HasBySpreads, has_by_spreads, SpreadsAdd}
+use Rattle.juniper_complexity.specs.device.BySpreads.{none_adds, first_adds}
+use Rattle.juniper_complexity.specs.Faults.{EarlierHave, SpreadFault, OfCycle, OfUnknown, CannotExpand, of_none}
+use Rattle.juniper_complexity.specs.Faults.{of_outer, in_fragment, in_others}
 use Rattle.juniper_complexity.specs.device.Outlines.{coded, IsOutline, AreOutlines}
 use Rattle.juniper_complexity.specs.Faults.{view_failure, FailsWithFirstFault}
 use Rattle.juniper_complexity.specs.declared.complexity.Complexity.{Complexity}
 use Rattle.juniper_complexity.specs.declared.complexity.ComplexityFailure.{ComplexityFailure}
 use Rattle.juniper_complexity.specs.declared.complexity.ComplexityFailure.TheVariants as failure
-use Rattle.juniper_complexity.specs.declared.walk.Outline.{Outline}
-use Rattle.juniper_complexity.specs.declared.walk.Spread.{Spread}
 use Rattle.juniper_complexity.proofs.Expanding.{expanded}
 use Rattle.juniper_complexity.proofs.Algebra.{at_capped_level, capped_plus}
 
@@ -48,11 +52,6 @@ module _ {A B : Type 0} (f : A → B) where
   map_cons [] s ss e = absurd cc
   map_cons (r ∷ rs) s ss e = record { first = r; others = rs; list = refl; is_first = cc; are_others = cc }
 
-  pub made_by : (rs : List A) (j : ℕ) (s : B) → slice_get (map f rs) j ≡ Some s → (r : A) × (s ≡ f r)
-  made_by [] j s e = absurd cc
-  made_by (r ∷ rs) zero s e = (r, cc)
-  made_by (r ∷ rs) (suc j) s e = made_by rs j s e
-
 -- ---- outlines
 
 module _ {C : Type 0} (place : Text → Option ℕ) where
@@ -70,20 +69,6 @@ module _ {C : Type 0} (place : Text → Option ℕ) where
       let same : p ≡ o = cc in record { definition = d; stands = refl; outline = rw (← same) h.0 }
   outlined (d ∷ ds) (p ∷ g) h (suc i) o e =
       let w = outlined ds g h.1 i o e in record { definition = w.definition; stands = w.stands; outline = w.outline }
-
-  pub as_many : (ds : List (Definition C)) (g : List Outline) → AreOutlines place ds g → length g ≡ length ds
-  as_many [] [] h = refl
-  as_many [] (p ∷ g) h = absurd h
-  as_many (d ∷ ds) [] h = absurd h
-  as_many (d ∷ ds) (p ∷ g) h = ap suc (as_many ds g h.1)
-
-  pub outline_more : (ds : List (Definition C)) (g : List Outline) (d : Definition C) (o : Outline)
-      → AreOutlines place ds g → IsOutline place d o
-      → AreOutlines place (ds ++ d ∷ []) (g ++ o ∷ [])
-  outline_more [] [] d o h k = (k, tt)
-  outline_more [] (p ∷ g) d o h k = absurd h
-  outline_more (e ∷ ds) [] d o h k = absurd h
-  outline_more (e ∷ ds) (p ∷ g) d o h k = (h.0, outline_more ds g d o h.1 k)
 
 -- ---- complexities
 
@@ -197,21 +182,6 @@ module _ {C : Type 0} (ds : List (Definition C)) (g : List Outline) (h : AreOutl
         cannot =
             on_list w.list (in_others t x.definition n.exact target x.stands x.expands m.cannot);
       }
-
-  -- ---- what the walk asks for
-
-  pub range : AreInRange g
-  range = record {
-    below = λ i j t o s eo es et.
-        let w = outlined (fragment_at ds) ds g h i o eo in
-        let here : slice_get (map (coded (fragment_at ds)) (spreads_of_definition w.definition)) j ≡ Some s =
-        subst (λ (z : List Spread). slice_get z j ≡ Some s) w.outline.own_spreads es in
-        let r = made_by (coded (fragment_at ds)) (spreads_of_definition w.definition) j s here in
-        let target : fragment_at ds r.0.name ≡ Some t = sym (ap (λ (z : Spread). z.target) r.1) ∙ et in
-        let below = position_below (is_fragment_named r.0.name) 0 ds t target in
-        let many = as_many (fragment_at ds) ds g h in
-        omega arith;
-  }
 
 -- ---- failures
 

@@ -1,8 +1,8 @@
 -- The complexities of operations, definition by definition.
-use Rattle.std.proofs.Common.{◌≡◌, ◌<◌, ◌≤◌, ◌+◌, ℕ, suc, true, false, List, [], ◌∷◌, ◌++◌, map, length, drop, get_or, Some, refl, ap, sym, subst, ◌∙◌, arith, inl, inr, add-one, append_assoc, append-nil}
+use Rattle.std.proofs.Common.{◌≡◌, ◌≤◌, ◌+◌, ℕ, suc, true, false, List, [], ◌∷◌, ◌++◌, length, drop, Some, ap, sym}
+use Rattle.std.proofs.Common.{subst, ◌∙◌, arith, inl, inr, add-one, append_assoc, append-nil}
 use Rattle.std.specs.List.{slice_get}
 use Rattle.std.proofs.lemmas.Bool.{cases_eq}
-use Rattle.std.proofs.lemmas.Option.{slice_get_read, slice_get-map}
 use Rattle.graphql_grammar.specs.Tree.{Definition}
 use Rattle.juniper_complexity.specs.Complexities.{capped_complexity}
 use Rattle.juniper_complexity.specs.Parts.{is_operation}
@@ -11,13 +11,6 @@ use Rattle.juniper_complexity.specs.Faults.{OperationsHave, no_definition, fragm
 use Rattle.juniper_complexity.specs.declared.complexity.Complexity.{Complexity}
 use Rattle.juniper_complexity.specs.declared.operations.OperationComplexity.{OperationComplexity}
 use Rattle.juniper_complexity.proofs.Places.{drop_at_get, drop_past}
-
--- a definition of the code, as the definitions see it
-pub seen_at : {A B : Type 0} (view : A → B) (xs : List A) (i : ℕ) (x : A) → i < length xs → x ≡ get_or xs i x
-    → slice_get (map view xs) i ≡ Some (view x)
-seen_at view xs i x lt e =
-    let here = slice_get_read xs (length xs) i x refl lt e in
-    rw (slice_get-map, here) refl
 
 module _ {C : Type 0} (ds : List (Definition C)) where
   -- with the complexities of the operations from this definition on, these are those of all

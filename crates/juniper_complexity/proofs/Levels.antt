@@ -7,10 +7,6 @@ use Rattle.juniper_complexity.specs.Parts.{field_complexity}
 use Rattle.juniper_complexity.specs.declared.complexity.Complexity.{Complexity}
 use Rattle.juniper_complexity.proofs.Algebra.{same_complexity}
 
--- nothing, inside so many fields
-abbrev pub floor : ℕ → Complexity
-floor l = record { fields = 0; aliases = 0; directives = 0; root_fields = 0; depth = l }
-
 abbrev pub only : ℕ → Complexity
 only n = record { fields = 0; aliases = 0; directives = n; root_fields = 0; depth = 0 }
 

@@ -3,7 +3,6 @@ pub mod Steps
 pub mod Measure
 pub mod Elements
 pub mod Algebra
-pub mod Gaining
 pub mod EnteredFields
 pub mod OutlineBuilders
 pub mod ResolvedOutlines

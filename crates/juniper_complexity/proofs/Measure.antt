@@ -3,16 +3,15 @@ use Rattle.std.proofs.Common.{◌≡◌, ◌<◌, ◌+◌, ◌-◌, ℕ, zero, s
 use Rattle.std.specs.List.{slice_get}
 use Rattle.std.proofs.lemmas.Option.{slice_get_within}
 use Rattle.juniper_complexity.specs.device.Sums.{plus_capped, at_level_capped}
-use Rattle.juniper_complexity.specs.device.Walk.{IsStep, step_done, step_spread, step_enter}
+use Rattle.juniper_complexity.specs.device.Walk.{Outline, IsStep, step_done, step_spread, step_enter}
 use Rattle.juniper_complexity.specs.declared.complexity.Complexity.{Complexity}
-use Rattle.juniper_complexity.specs.declared.walk.Outline.{Outline}
 use Rattle.juniper_complexity.specs.declared.walk.State.{State}
 use Rattle.juniper_complexity.specs.declared.walk.State.TheVariants as state
 use Rattle.juniper_complexity.specs.declared.walk.Step.TheVariants as step
 
 abbrev pub left_at : Outline → State → ℕ
-left_at o state.Unvisited = 2 + length o.spreads.items
-left_at o (state.Open n a) = 1 + (length o.spreads.items - n)
+left_at o state.Unvisited = 2 + length o.spreads
+left_at o (state.Open n a) = 1 + (length o.spreads - n)
 left_at o (state.Done c) = 0
 
 abbrev pub left : List Outline → List State → ℕ
@@ -40,7 +39,7 @@ less_done g old new at a (step_done n b o eo ea le e) =
 pub less_on : (g : List Outline) (old new : List State) (at : ℕ) → IsStep g old new at step.NextSpread
     → left g new < left g old
 less_on g old new at (step_spread n t a b o s next et done_t e) =
-    let within = slice_get_within o.spreads.items n s next.spread in
+    let within = slice_get_within o.spreads n s next.spread in
     rw e (left_set g old at o (state.Open n a) (state.Open (n + 1) (plus_capped a (at_level_capped s.fields_around b)))
     next.outline next.open_at (omega arith))
 

@@ -1,49 +1,47 @@
--- What selections in a row, and fields, count and spread.
-use Rattle.std.proofs.Common.{◌≡◌, ◌<◌, ◌≤◌, ◌+◌, ℕ, suc, List, [], ◌∷◌, ◌++◌, length, take, get_or, Option, Some, None, refl, ap, sym, ◌∙◌, append_assoc, append-nil, add-one}
-use Rattle.std.specs.Prelude.{option_map}
-use Rattle.std.specs.Global.{Vec}
-use Rattle.std.proofs.lemmas.List.{take_all}
+-- What selections in a row count and spread.
+use Rattle.std.proofs.Common.{◌≡◌, ◌<◌, ◌+◌, ℕ, List, [], ◌∷◌, ◌++◌, length, map, take, get_or, ap, sym, ◌∙◌}
+use Rattle.std.proofs.Common.{append_assoc}
+use Rattle.std.proofs.Common.{append-nil, add-one, Option, Some, None}
 use Rattle.std.proofs.Math.Seq.{take-suc}
-use Rattle.graphql_grammar.specs.Tokens.{Text}
-use Rattle.juniper_tokens.specs.declared.span.Spanning.{Spanning}
-use Rattle.juniper.specs.declared.tree.ast.Field.{Field}
 use Rattle.juniper.specs.declared.tree.ast.Selection.{Selection}
-use Rattle.juniper.specs.View.{view_word, view_directives, view_selection, view_selections, view_field}
-use Rattle.juniper_complexity.specs.Complexities.{plus}
-use Rattle.juniper_complexity.specs.device.Sums.{at_level}
-use Rattle.juniper_complexity.specs.Parts.{directives_complexity, field_complexity, spreads_of, spreads_of_optional, spreads_of_all}
+use Rattle.std.specs.Global.{Vec}
+use Rattle.juniper.specs.View.{view_selection, view_selections, view_set}
+use Rattle.juniper_values.specs.Scalar.{Content}
+use Rattle.juniper_complexity.specs.Complexities.{plus, capped_complexity}
+use Rattle.juniper_complexity.specs.Gathered.{Gathers, GathersSelection, seen_spread, capped_reference}
+use Rattle.juniper_complexity.specs.Parts.{Reference, spreads_of, spreads_of_optional, spreads_of_all}
 use Rattle.juniper_complexity.specs.device.BySpreads.{own_of, own_of_optional, own_of_all}
-use Rattle.juniper_complexity.specs.device.Outlines.{Gains}
 use Rattle.juniper_complexity.specs.declared.complexity.Complexity.{Complexity}
-use Rattle.juniper_complexity.specs.declared.walk.Outline.{Outline}
+use Rattle.juniper_complexity.specs.declared.outline_builder.OutlineBuilder.{OutlineBuilder}
 use Rattle.juniper_complexity.proofs.Algebra.{plus_assoc, plus_nothing, nothing_plus}
-use Rattle.juniper_complexity.proofs.Gaining.{gained_none, gained_both, gained_same}
+use Rattle.juniper_complexity.proofs.OutlineBuilders.{gathers_none, gathers_both}
 
-module _ {S C : Type 0} (content : S → C) where
-  -- a field's own count
-  abbrev pub counted : Spanning (Field S) → ℕ → Complexity
-  counted f l = plus (at_level l (field_complexity (option_map view_word f.item.alias)))
-      (directives_complexity (view_directives content f.item.directives))
+gathers_same : (old new : OutlineBuilder) (own own_too : ℕ → Complexity) (spreads spreads_too : ℕ → List Reference)
+    → ((l : ℕ) → own_too l ≡ own l) → ((l : ℕ) → spreads_too l ≡ spreads l) → Gathers old new own spreads
+    → Gathers old new own_too spreads_too
+gathers_same old new own own_too spreads spreads_too e f g = record {
+  own_complexity = λ l x k h. g.own_complexity l x k h ∙ ap (λ y. capped_complexity (plus x y)) (sym (e l));
+  own_spreads = λ l k. g.own_spreads l k
+      ∙ ap (λ y. map seen_spread old.spreads.items ++ map capped_reference y) (sym (f l));
+  same_level = g.same_level;
+}
 
-  pub own_alone : (f : Spanning (Field S)) → f.item.selection_set ≡ None → (l : ℕ)
-      → own_of l (view_field content f) ≡ counted f l
-  unfolding own_of own_of_optional
-  own_alone f e l = rw e (plus_nothing (counted f l))
+module _ {S : Type 0} (content : S → Content) where
+  -- the selections of a field, if it has some
+  pub none_inside : (set : Option (Vec (Selection S))) (it : OutlineBuilder) → set ≡ None
+      → Gathers it it (λ l. own_of_optional l (view_set content set))
+      (λ l. spreads_of_optional l (view_set content set))
+  unfolding own_of_optional spreads_of_optional
+  none_inside set it e = rw e (gathers_none it)
 
-  pub spreads_alone : (f : Spanning (Field S)) → f.item.selection_set ≡ None → (l : ℕ)
-      → spreads_of l (view_field content f) ≡ []
-  unfolding spreads_of spreads_of_optional
-  spreads_alone f e l = rw e refl
-
-  pub own_above : (f : Spanning (Field S)) (v : Vec (Selection S)) → f.item.selection_set ≡ Some v → (l : ℕ)
-      → own_of l (view_field content f) ≡ plus (counted f l) (own_of_all (suc l) (view_selections content v.items))
-  unfolding own_of own_of_optional own_of_all
-  own_above f v e l = rw e refl
-
-  pub spreads_above : (f : Spanning (Field S)) (v : Vec (Selection S)) → f.item.selection_set ≡ Some v → (l : ℕ)
-      → spreads_of l (view_field content f) ≡ spreads_of_all (suc l) (view_selections content v.items)
-  unfolding spreads_of spreads_of_optional spreads_of_all
-  spreads_above f v e l = rw e refl
+  pub some_inside : (set : Option (Vec (Selection S))) (v : Vec (Selection S)) (old new : OutlineBuilder)
+      → set ≡ Some v
+      → Gathers old new (λ l. own_of_all l (view_selections content v.items))
+      (λ l. spreads_of_all l (view_selections content v.items))
+      → Gathers old new (λ l. own_of_optional l (view_set content set))
+      (λ l. spreads_of_optional l (view_set content set))
+  unfolding own_of_optional spreads_of_optional
+  some_inside set v old new e g = rw e g
 
   own_more : (l : ℕ) (xs : List (Selection S)) (x : Selection S) → own_of_all l (view_selections content (xs ++ x ∷ []))
       ≡ plus (own_of_all l (view_selections content xs)) (own_of l (view_selection content x))
@@ -65,42 +63,27 @@ module _ {S C : Type 0} (content : S → C) where
       ∙ sym (append_assoc (spreads_of l (view_selection content y)) (spreads_of_all l (view_selections content ys))
       (spreads_of l (view_selection content x)))
 
-  -- the outline has gained the first i selections
-  abbrev pub Goes : (Text → Option ℕ) → ℕ → Outline → Outline → List (Selection S) → ℕ → Type 0
-  Goes place level old now xs i =
-      Gains place level old now (λ l. own_of_all l (view_selections content (take i xs)))
+  -- the builder has gathered the first i selections
+  abbrev pub GathersFirst : OutlineBuilder → OutlineBuilder → List (Selection S) → ℕ → Type 0
+  GathersFirst old now xs i =
+      Gathers old now (λ l. own_of_all l (view_selections content (take i xs)))
       (λ l. spreads_of_all l (view_selections content (take i xs)))
 
-  pub none_yet : (place : Text → Option ℕ) (level : ℕ) (o : Outline) (xs : List (Selection S))
-      → Goes place level o o xs 0
+  pub none_yet : (it : OutlineBuilder) (xs : List (Selection S)) → GathersFirst it it xs 0
   unfolding own_of_all spreads_of_all
-  none_yet place level o xs = gained_none place level o
+  none_yet it xs = gathers_none it
 
-  pub one_more : (place : Text → Option ℕ) (level : ℕ) (old now new : Outline) (xs : List (Selection S)) (i : ℕ)
-      (x : Selection S)
-      → i < length xs → x ≡ get_or xs i x → Goes place level old now xs i
-      → Gains place level now new (λ l. own_of l (view_selection content x))
-      (λ l. spreads_of l (view_selection content x))
-      → Goes place level old new xs (i + 1)
-  one_more place level old now new xs i x lt r goes gains =
+  pub one_more : (old now new : OutlineBuilder) (xs : List (Selection S)) (i : ℕ) (x : Selection S)
+      → i < length xs → x ≡ get_or xs i x → GathersFirst old now xs i
+      → GathersSelection now new tt (view_selection content x) → GathersFirst old new xs (i + 1)
+  one_more old now new xs i x lt r first gathers =
       let longer : take (i + 1) xs ≡ take i xs ++ x ∷ [] =
       ap (λ k. take k xs) (add-one i) ∙ (take-suc xs i x lt ∙ ap (λ (y : Selection S). take i xs ++ y ∷ []) (sym r)) in
-      gained_same place level old new
+      gathers_same old new
       (λ l. plus (own_of_all l (view_selections content (take i xs))) (own_of l (view_selection content x)))
       (λ l. own_of_all l (view_selections content (take (i + 1) xs)))
       (λ l. spreads_of_all l (view_selections content (take i xs)) ++ spreads_of l (view_selection content x))
       (λ l. spreads_of_all l (view_selections content (take (i + 1) xs)))
       (λ l. ap (λ ys. own_of_all l (view_selections content ys)) longer ∙ own_more l (take i xs) x)
       (λ l. ap (λ ys. spreads_of_all l (view_selections content ys)) longer ∙ spreads_more l (take i xs) x)
-      (gained_both place level old now new _ _ _ _ goes gains)
-
-  pub all_gone : (place : Text → Option ℕ) (level : ℕ) (old now : Outline) (xs : List (Selection S)) (i : ℕ)
-      → length xs ≤ i
-      → Goes place level old now xs i
-      → Gains place level old now (λ l. own_of_all l (view_selections content xs))
-      (λ l. spreads_of_all l (view_selections content xs))
-  all_gone place level old now xs i le goes =
-      let whole = take_all i xs le in
-      gained_same place level old now _ _ _ _
-      (λ l. ap (λ ys. own_of_all l (view_selections content ys)) (sym whole))
-      (λ l. ap (λ ys. spreads_of_all l (view_selections content ys)) (sym whole)) goes
+      (gathers_both old now new _ _ _ _ first gathers)

@@ -5,12 +5,15 @@ use Rattle.std.proofs.lemmas.Bool.{cases_eq}
 use Rattle.juniper_tokens.specs.declared.span.Span.{Span}
 use Rattle.juniper_complexity.specs.device.Sums.{plus_capped, at_level_capped}
 use Rattle.juniper_complexity.specs.Faults.{IsAmong}
-use Rattle.juniper_complexity.specs.device.Walk.{OutlineHas, outline_has, AddsUpTo, no_spread, spread_first, Breaks, names_none, names_outer, breaks_within, breaks_after, BreaksAt, AreRight, IsOpen, IsNext, IsStep, step_done, step_spread, step_enter, step_cycle, step_unknown}
+use Rattle.juniper_complexity.specs.device.Walk.{Outline, Spread, OutlineHas, outline_has, AddsUpTo, no_spread}
+use Rattle.juniper_complexity.specs.device.Walk.{spread_first, Breaks}
+use Rattle.juniper_complexity.specs.device.Walk.{names_none, names_outer, breaks_within, breaks_after, BreaksAt}
+use Rattle.juniper_complexity.specs.device.Walk.{AreRight, LeadsTo, Waits}
+use Rattle.juniper_complexity.specs.device.Walk.{IsOpen, IsNext, IsStep, step_done, step_spread, step_enter, step_cycle}
+use Rattle.juniper_complexity.specs.device.Walk.{step_unknown}
 use Rattle.juniper_complexity.specs.declared.complexity.Complexity.{Complexity}
 use Rattle.juniper_complexity.specs.declared.complexity.ComplexityFailure.{ComplexityFailure}
 use Rattle.juniper_complexity.specs.declared.complexity.ComplexityFailure.TheVariants as failure
-use Rattle.juniper_complexity.specs.declared.walk.Outline.{Outline}
-use Rattle.juniper_complexity.specs.declared.walk.Spread.{Spread}
 use Rattle.juniper_complexity.specs.declared.walk.State.{State}
 use Rattle.juniper_complexity.specs.declared.walk.State.TheVariants as state
 use Rattle.juniper_complexity.specs.declared.walk.Step.TheVariants as step
@@ -21,16 +24,16 @@ module _ (g : List Outline) where
   pub record Partly (i n : ℕ) (a : Complexity) : Type 0 where
     pub outline : Outline
     pub is : slice_get g i ≡ Some outline
-    pub adds : (c : Complexity) → AddsUpTo g a (drop n outline.spreads.items) c
-        → AddsUpTo g outline.own outline.spreads.items c
-    pub breaks : (inside : List ℕ) (f : ComplexityFailure) → Breaks g inside (drop n outline.spreads.items) f
-        → Breaks g inside outline.spreads.items f
+    pub adds : (c : Complexity) → AddsUpTo g a (drop n outline.spreads) c
+        → AddsUpTo g outline.own outline.spreads c
+    pub breaks : (inside : List ℕ) (f : ComplexityFailure) → Breaks g inside (drop n outline.spreads) f
+        → Breaks g inside outline.spreads f
 
   -- what the definition t breaks by, the root breaks by
   pub record Link (root t : ℕ) (rest : List ℕ) : Type 0 where
     pub fresh : ¬ IsAmong t rest
     pub breaks : (o : Outline) → slice_get g t ≡ Some o → (f : ComplexityFailure)
-        → Breaks g (t ∷ rest) o.spreads.items f → BreaksAt g root f
+        → Breaks g (t ∷ rest) o.spreads f → BreaksAt g root f
 
   abbrev pub Chain : ℕ → List ℕ → Type 0
   Chain root [] = Unit {0}
@@ -41,6 +44,11 @@ module _ (g : List Outline) where
   Ends root t [] = t ≡ root
   Ends root t (u ∷ rest) = Ends root u rest
 
+  -- each of these but the innermost waits for the one before it
+  abbrev pub Leads : List State → ℕ → List ℕ → Type 0
+  Leads ss at [] = Unit {0}
+  Leads ss at (above ∷ rest) = LeadsTo g ss above at × Leads ss above rest
+
   -- the definitions on the path are those that are open, the innermost first
   pub record Walks (root : ℕ) (ss : List State) (at : ℕ) (rest : List ℕ) : Type 0 where
     pub done : (i : ℕ) (c : Complexity) → slice_get ss i ≡ Some (state.Done c) → OutlineHas g i c
@@ -48,17 +56,18 @@ module _ (g : List Outline) where
     pub on_path : (i n : ℕ) (a : Complexity) → slice_get ss i ≡ Some (state.Open n a) → IsAmong i (at ∷ rest)
     pub is_open : (i : ℕ) → IsAmong i (at ∷ rest) → IsOpen ss i
     pub chain : Chain root (at ∷ rest)
+    pub leads : Leads ss at rest
     pub ends : Ends root at rest
 
   -- where the next spread is done, it adds its complexity
   next_adds : (i n t : ℕ) (a b : Complexity) (o : Outline) (s : Spread) → slice_get g i ≡ Some o
-      → slice_get o.spreads.items n ≡ Some s
+      → slice_get o.spreads n ≡ Some s
       → s.target ≡ Some t → OutlineHas g t b → Partly i n a
       → Partly i (n + 1) (plus_capped a (at_level_capped s.fields_around b))
   next_adds i n t a b o s eo es et k p =
       let same : p.outline ≡ o = cc (p.is, eo) in
-      let here : slice_get p.outline.spreads.items n ≡ Some s = rw same es in
-      let split = drop_at_get p.outline.spreads.items n s here in
+      let here : slice_get p.outline.spreads n ≡ Some s = rw same es in
+      let split = drop_at_get p.outline.spreads n s here in
       record {
         outline = p.outline;
         is = p.is;
@@ -79,6 +88,29 @@ module _ (g : List Outline) where
     still_open : (at : ℕ) (x : State) → Written old new at x → (i : ℕ) → (i ≡ at → ⊥) → IsOpen old i → IsOpen new i
     still_open at x w i q h = record { next = h.next; complexity = h.complexity; is = w.others i q ∙ h.is }
 
+    leads_still : (i : ℕ) (x : State) → Written old new i x → (at inner : ℕ) → (at ≡ i → ⊥) → LeadsTo g old at inner
+        → LeadsTo g new at inner
+    leads_still i x w at inner q l = record {
+      next = l.next;
+      complexity = l.complexity;
+      of = l.of;
+      spread = l.spread;
+      is_next = record {
+        outline = l.is_next.outline;
+        open_at = w.others at q ∙ l.is_next.open_at;
+        spread = l.is_next.spread;
+      };
+      named = l.named;
+    }
+
+    still_leads : (i : ℕ) (x : State) → Written old new i x → (at : ℕ) (rest : List ℕ) → ¬ IsAmong i rest
+        → Leads old at rest → Leads new at rest
+    still_leads i x w at [] fresh l = tt
+    still_leads i x w at (above ∷ rest) fresh l = (
+      leads_still i x w above at (λ q. fresh (inl (sym q))) l.0,
+      still_leads i x w above rest (λ h. fresh (inr h)) l.1,
+    )
+
     -- ---- the beginning
 
     pub at_start : (root : ℕ) (o : Outline) → slice_get g root ≡ Some o → Written old new root (state.Open 0 o.own)
@@ -95,6 +127,7 @@ module _ (g : List Outline) where
           [ inl p ↦ inl p.0 | inr p ↦ absurd (right.none_open i n a p.1) ];
       is_open = λ i h. elim h [ inl q ↦ record { next = 0; complexity = o.own; is = rw q w.here } | inr q ↦ absurd q ];
       chain = (record { fresh = λ h. h; breaks = λ p ep f h q eq. let same : p ≡ q = cc in rw (← same) h }, tt);
+      leads = tt;
       ends = refl;
     }
 
@@ -103,13 +136,13 @@ module _ (g : List Outline) where
     module _ (root at : ℕ) (rest : List ℕ) (walks : Walks root old at rest) where
       -- what breaks at the next spread breaks the root
       outwards : (n : ℕ) (a : Complexity) (o : Outline) (s : Spread) → IsNext g old at n a o s → (f : ComplexityFailure)
-          → Breaks g (at ∷ rest) (s ∷ drop (n + 1) o.spreads.items) f → BreaksAt g root f
+          → Breaks g (at ∷ rest) (s ∷ drop (n + 1) o.spreads) f → BreaksAt g root f
       outwards n a o s next f h =
           let p = walks.partly at n a next.open_at in
           let same : p.outline ≡ o = cc (p.is, next.outline) in
-          let split = drop_at_get o.spreads.items n s next.spread in
-          let inner : Breaks g (at ∷ rest) (drop n o.spreads.items) f = rw split h in
-          let inner_too : Breaks g (at ∷ rest) (drop n p.outline.spreads.items) f = rw same inner in
+          let split = drop_at_get o.spreads n s next.spread in
+          let inner : Breaks g (at ∷ rest) (drop n o.spreads) f = rw split h in
+          let inner_too : Breaks g (at ∷ rest) (drop n p.outline.spreads) f = rw same inner in
           walks.chain.0.breaks p.outline p.is f (p.breaks (at ∷ rest) f inner_too)
 
       pub after_unknown : (span : Span) → IsStep g old new at (step.Unknown span)
@@ -123,11 +156,11 @@ module _ (g : List Outline) where
       -- the complexity of the definition that is done
       has_at : (n : ℕ) (a : Complexity) (o : Outline) → slice_get g at ≡ Some o
           → slice_get old at ≡ Some (state.Open n a)
-          → length o.spreads.items ≤ n → OutlineHas g at a
+          → length o.spreads ≤ n → OutlineHas g at a
       has_at n a o eo ea le =
           let p = walks.partly at n a ea in
           let same : p.outline ≡ o = cc (p.is, eo) in
-          let past : drop n p.outline.spreads.items ≡ [] = rw same (drop_past o.spreads.items n le) in
+          let past : drop n p.outline.spreads ≡ [] = rw same (drop_past o.spreads n le) in
           outline_has p.outline p.is (p.adds a (rw past no_spread))
 
       pub after_done : (a : Complexity) → IsStep g old new at (step.Done a) → OutlineHas g at a
@@ -173,7 +206,22 @@ module _ (g : List Outline) where
                 let other : i ≡ at → ⊥ = λ q. fresh (subst (λ (x : ℕ). IsAmong x (above ∷ others)) q h) in
                 still_open at (state.Done b) w i other (walks.is_open i among);
             chain = chain.1;
+            leads = still_leads at (state.Done b) w above others (λ h. fresh (inr h))
+                (subst (λ (x : List ℕ). Leads old at x) r walks.leads).1;
             ends = ends;
+          }
+
+      -- the definition above waits for the one that is done
+      pub waits_above : (a : Complexity) → IsStep g old new at (step.Done a) → (above : ℕ) (others : List ℕ)
+          → rest ≡ above ∷ others → Waits g new above a
+      waits_above a (step_done n b o eo ea le e) above others r =
+          let w = written old new at (state.Done b) (state.Open n b) ea e in
+          let chain : Chain root (at ∷ above ∷ others) = subst (λ (x : List ℕ). Chain root (at ∷ x)) r walks.chain in
+          let leads : Leads old at (above ∷ others) = subst (λ (x : List ℕ). Leads old at x) r walks.leads in
+          record {
+            target = at;
+            leads = leads_still at (state.Done b) w above at (λ q. chain.0.fresh (inl (sym q))) leads.0;
+            is_done = w.here;
           }
 
       pub walks_on : IsStep g old new at step.NextSpread → Walks root new at rest
@@ -196,6 +244,7 @@ module _ (g : List Outline) where
                   still_open at after w i q (walks.is_open i h)
             ];
             chain = walks.chain;
+            leads = still_leads at after w at rest walks.chain.0.fresh walks.leads;
             ends = walks.ends;
           }
 
@@ -226,6 +275,10 @@ module _ (g : List Outline) where
                 breaks = λ o2 eo2 f h. outwards n a o s next f (breaks_within u o2 et fresh eo2 h);
               },
               walks.chain,
+            );
+            leads = still_leads u after w u (at ∷ rest) fresh (
+              record { next = n; complexity = a; of = o; spread = s; is_next = next; named = et },
+              walks.leads,
             );
             ends = walks.ends;
           }

@@ -1,5 +1,6 @@
 -- Each definition has a complexity, or a fault.
-use Rattle.std.proofs.Common.{◌≡◌, ◌⊎◌, ◌<◌, ◌≤◌, ◌+◌, ℕ, zero, suc, true, false, eqb, List, [], ◌∷◌, length, Option, Some, None, refl, arith, inl, inr}
+use Rattle.std.proofs.Common.{◌≡◌, ◌⊎◌, ◌<◌, ◌≤◌, ◌+◌, ℕ, zero, suc, true, false, eqb, List, [], ◌∷◌, length, Option}
+use Rattle.std.proofs.Common.{Some, None, refl, arith, inl, inr}
 use Rattle.std.specs.List.{slice_get, list_any, AllByRecursion, IsDistinct}
 use Rattle.std.proofs.lemmas.Bool.{cases_eq, ne_eqb}
 use Rattle.std.proofs.lemmas.Map.Steps.{length-le_from_distinct_below}
@@ -7,9 +8,11 @@ use Rattle.std.proofs.lemmas.Option.{slice_get_cases, slice_get_within}
 use Rattle.graphql_grammar.specs.Tree.{Definition}
 use Rattle.juniper_complexity.specs.Complexities.{plus}
 use Rattle.juniper_complexity.specs.device.Sums.{at_level}
-use Rattle.juniper_complexity.specs.device.BySpreads.{own_of_definition, HasBySpreads, has_by_spreads, SpreadsAdd, none_adds, first_adds}
+use Rattle.juniper_complexity.specs.device.BySpreads.{own_of_definition, HasBySpreads, has_by_spreads, SpreadsAdd}
+use Rattle.juniper_complexity.specs.device.BySpreads.{none_adds, first_adds}
 use Rattle.juniper_complexity.specs.Expansion.{DefinitionHas}
-use Rattle.juniper_complexity.specs.Faults.{IsAmong, SpreadFault, OfCycle, OfUnknown, CannotExpand, of_none, of_outer, in_fragment, in_others}
+use Rattle.juniper_complexity.specs.Faults.{IsAmong, SpreadFault, OfCycle, OfUnknown, CannotExpand, of_none, of_outer}
+use Rattle.juniper_complexity.specs.Faults.{in_fragment, in_others}
 use Rattle.juniper_complexity.specs.Parts.{Reference, spreads_of_definition, is_fragment_named, fragment_at}
 use Rattle.juniper_complexity.specs.declared.complexity.Complexity.{Complexity}
 use Rattle.juniper_complexity.proofs.Bridge.{position_below}

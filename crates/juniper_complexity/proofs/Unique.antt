@@ -6,7 +6,8 @@ use Rattle.juniper_complexity.specs.Complexities.{plus}
 use Rattle.juniper_complexity.specs.device.Sums.{at_level}
 use Rattle.juniper_complexity.specs.Faults.{IsAmong}
 use Rattle.juniper_complexity.specs.Parts.{Reference, spreads_of_definition, fragment_at}
-use Rattle.juniper_complexity.specs.device.BySpreads.{own_of_definition, HasBySpreads, has_by_spreads, SpreadsAdd, none_adds, first_adds}
+use Rattle.juniper_complexity.specs.device.BySpreads.{own_of_definition, HasBySpreads, has_by_spreads, SpreadsAdd}
+use Rattle.juniper_complexity.specs.device.BySpreads.{none_adds, first_adds}
 use Rattle.juniper_complexity.specs.Faults.{SpreadFault, CannotExpand, of_none, of_outer, in_fragment, in_others}
 use Rattle.juniper_complexity.specs.declared.complexity.Complexity.{Complexity}
 

@@ -4,7 +4,8 @@ use Rattle.std.specs.Prelude.{◌≡◌, ℕ, List, slice_get, Option, Some}
 use Rattle.graphql_lexical.specs.Place.{Span}
 use Rattle.graphql_grammar.specs.Tokens.{Word}
 use Rattle.graphql_grammar.specs.Tree as tree
-use Rattle.graphql_grammar.specs.Tree.{Arguments, Variables, Directives, Selection, Selections, no_selections, selection, absent, present, Definition}
+use Rattle.graphql_grammar.specs.Tree.{Arguments, Variables, Directives, Selection, Selections, no_selections}
+use Rattle.graphql_grammar.specs.Tree.{selection, absent, present, Definition}
 use Rattle.graphql_grammar.specs.declared.operation.OperationType.{OperationType}
 use Rattle.juniper_complexity.specs.Complexities.{nothing, plus, in_a_field}
 use Rattle.juniper_complexity.specs.Parts.{directives_complexity, field_complexity, fragment_at}

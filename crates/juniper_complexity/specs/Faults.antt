@@ -1,6 +1,7 @@
 -- The complexities of a document's operations, and the first spread that can't be expanded
 -- (GraphQL specification, October 2021, sections 5.5.2.1 and 5.5.2.2).
-use Rattle.std.specs.Prelude.{◌≡◌, ◌⊎◌, ◌<◌, ℕ, suc, true, false, List, [], ◌∷◌, slice_get, Option, Some, None, Result, Ok, Err}
+use Rattle.std.specs.Prelude.{◌≡◌, ◌⊎◌, ◌<◌, ℕ, suc, true, false, List, [], ◌∷◌, slice_get, Option, Some, None, Result}
+use Rattle.std.specs.Prelude.{Ok, Err}
 use Rattle.graphql_lexical.specs.Place.{Span}
 use Rattle.graphql_grammar.specs.Tree.{Definition}
 use Rattle.juniper_tokens.specs.Spans.{view_span}
@@ -23,9 +24,9 @@ pub data SpreadFault : Type 0 where
   OfUnknown : Span → SpreadFault
 
 module _ {C : Type 0} (document : List (Definition C)) where
-  -- These spreads are in a definition that is being expanded inside those of these indexes, itself among them. The first
-  -- one that can't be expanded, in the order of the text, each one before it expanded first, has this fault: it names no
-  -- fragment, or one that is being expanded.
+  -- These spreads are in a definition that is being expanded inside those of these indexes, itself among them. The
+  -- first one that can't be expanded, in the order of the text, each one before it expanded first, has this fault: it
+  -- names no fragment, or one that is being expanded.
   pub data CannotExpand : List ℕ → List Reference → SpreadFault → Type 0 where
     of_none : {inside : List ℕ} {r : Reference} {rs : List Reference} → fragment_at document r.name ≡ None
         → CannotExpand inside (r ∷ rs) (OfUnknown r.span)

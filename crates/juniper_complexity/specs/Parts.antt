@@ -5,7 +5,8 @@ use Rattle.std.specs.Prelude.{ℕ, suc, Bool, true, false, List, [], ◌∷◌, 
 use Rattle.graphql_lexical.specs.Place.{Span}
 use Rattle.graphql_grammar.specs.Tokens.{Text, Word}
 use Rattle.graphql_grammar.specs.Tree as tree
-use Rattle.graphql_grammar.specs.Tree.{Directives, Selection, Selections, no_selections, selection, OptionalSelections, absent, present, Definition}
+use Rattle.graphql_grammar.specs.Tree.{Directives, Selection, Selections, no_selections, selection, OptionalSelections}
+use Rattle.graphql_grammar.specs.Tree.{absent, present, Definition}
 use Rattle.juniper_values.specs.Text.{same_text}
 use Rattle.juniper_complexity.specs.declared.complexity.Complexity.{Complexity}
 

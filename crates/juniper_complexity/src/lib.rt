@@ -6,12 +6,13 @@ mod complexity;
 pub mod laws;
 mod names;
 mod operations;
-mod outline;
 mod outline_builder;
-mod resolving;
+mod tree_outlines;
 mod walk;
 
 pub use complexity::{Complexity, ComplexityFailure};
 pub use names::fragment_names;
-pub use operations::{OperationComplexity, gathered_complexities, operation_complexities};
+pub use operations::{
+    OperationComplexity, gathered_complexities, operation_complexities, spread_nothing,
+};
 pub use outline_builder::{DefinitionOutline, DefinitionOutlines, OutlineBuilder, PartCount};

@@ -6,7 +6,7 @@ ghost use Rattle.graphql_grammar.specs.Tokens.{Text};
 ghost use Rattle.juniper.specs.View.{view_definition};
 ghost use Rattle.juniper_complexity.specs.Parts.{fragment_at};
 ghost use Rattle.juniper_complexity.specs.Names.{Knows};
-ghost use Rattle.juniper_complexity.specs.device.Resolved.{LeadTo, is_named, place_of};
+ghost use Rattle.juniper_complexity.specs.device.Resolved.{AreNamed, is_named, place_of};
 ghost use Rattle.std.specs.Prelude.{map};
 
 use crate::outline_builder::DefinitionOutline;
@@ -22,8 +22,8 @@ fn put<'t>(names: &mut BTreeMap<&'t str, usize>, name: &'t str, at: usize) -> Re
     Ok(())
 }
 
-/// The index of the fragment of this name among the definitions, or None if there is none.
-pub(crate) fn find<'t>(names: &BTreeMap<&'t str, usize>, name: &'t str) -> Option<usize>
+// The index of the fragment of this name among the definitions, or None if there is none.
+fn find<'t>(names: &BTreeMap<&'t str, usize>, name: &'t str) -> Option<usize>
     ensures { (place : Text → Option ℕ) → Knows names.now place → result ≡ place (chars name.now) }
 {
     names.get(&name).copied()
@@ -63,7 +63,7 @@ pub(crate) fn gathered_names<'a>(
     alloc: Global,
     definitions: &[DefinitionOutline<'a>],
 ) -> Result<BTreeMap<&'a str, usize>, AllocError>
-    ensures { IfOk result (λ names. LeadTo definitions.now names (place_of definitions.now)) }
+    ensures { IfOk result (λ names. AreNamed definitions.now names) }
 {
     let mut names = BTreeMap::new(alloc);
     if definitions.len() > FEW {
@@ -95,7 +95,8 @@ pub(crate) fn find_gathered<'a>(
     names: &BTreeMap<&'a str, usize>,
     name: &'a str,
 ) -> Option<usize>
-    ensures { (place : Text → Option ℕ) → LeadTo definitions.now names.now place → result ≡ place (chars name.now) }
+    requires { AreNamed definitions.now names.now }
+    ensures { result ≡ place_of definitions.now (chars name.now) }
 {
     if definitions.len() > FEW {
         find(names, name)

@@ -5,20 +5,18 @@ ghost use Rattle.juniper_values.specs.Scalar.{Content};
 ghost use Rattle.juniper.specs.View.{view_definition};
 ghost use Rattle.juniper_complexity.specs.Faults.{OperationsHave};
 ghost use Rattle.juniper_complexity.specs.Faults.{FailsWithFirstFault};
-ghost use Rattle.juniper_complexity.specs.Gathered.{AreGathered};
-ghost use Rattle.juniper_complexity.specs.Parts.{fragment_at};
-ghost use Rattle.juniper_complexity.specs.device.Outlines.{AreOutlines};
-ghost use Rattle.juniper_complexity.specs.device.Resolved.{SpreadNothing};
-ghost use Rattle.juniper_complexity.specs.device.Walk.{AreInRange, AreUnvisited};
+ghost use Rattle.juniper_complexity.specs.Gathered.{AreGathered, own_complexities};
+ghost use Rattle.juniper_complexity.specs.device.Resolved.{AreNamed, SpreadNothing};
+ghost use Rattle.juniper_complexity.specs.device.Walk.{AreUnvisited};
 
 use crate::complexity::{Complexity, ComplexityFailure};
-use crate::names::{fragment_names, gathered_names};
-use crate::outline::outlines;
+use crate::names::gathered_names;
 use crate::outline_builder::DefinitionOutline;
-use crate::resolving::resolved_outlines;
-use crate::walk::{Outline, State, complexity_of};
+use crate::tree_outlines::tree_outlines;
+use crate::walk::{State, complexity_of};
 use juniper::{Definition, ScalarValue};
 use std::alloc::{AllocError, Global};
+use std::collections::BTreeMap;
 
 /// The complexity of one operation of a document.
 #[derive(Clone, Copy, Debug, PartialEq, Eq)]
@@ -65,25 +63,28 @@ pub fn operation_complexities<'a, S: ScalarValue>(
     ensures complexities { let definitions = map (view_definition S.content) document.now in IfOk result (λ complexities. OperationsHave definitions 0 definitions complexities.items) }
     ensures failure { FailsWithFirstFault (map (view_definition S.content) document.now) result }
 {
-    let names = fragment_names(alloc, document)?;
-    let outlines = outlines(alloc, &names, document)?;
-    outlined_complexities(alloc, &outlines)
+    let definitions = tree_outlines(alloc, document)?;
+    if spread_nothing(&definitions) {
+        return Ok(own_complexities(alloc, &definitions)?);
+    }
+    gathered_complexities(alloc, &definitions)
 }
 
-/// The complexity of each operation of a document, of whose definitions these are the outlines.
-pub(crate) fn outlined_complexities(
+/// The complexity of each operation among definitions, whose names these are.
+fn outlined_complexities<'a>(
     alloc: Global,
-    outlines: &[Outline],
+    definitions: &[DefinitionOutline<'a>],
+    names: &BTreeMap<&'a str, usize>,
 ) -> Result<Vec<OperationComplexity>, ComplexityFailure>
-    requires { AreInRange outlines.now }
-    ensures complexities { (document : List (Seen Content)) → AreOutlines (fragment_at document) document outlines.now → IfOk result (λ complexities. OperationsHave document 0 document complexities.items) }
-    ensures failure { (document : List (Seen Content)) → AreOutlines (fragment_at document) document outlines.now → FailsWithFirstFault document result }
+    requires { AreNamed definitions.now names.now }
+    ensures complexities { (document : List (Seen Content)) → AreGathered definitions.now document → IfOk result (λ complexities. OperationsHave document 0 document complexities.items) }
+    ensures failure { (document : List (Seen Content)) → AreGathered definitions.now document → FailsWithFirstFault document result }
 {
-    let mut states = unvisited(alloc, outlines.len())?;
+    let mut states = unvisited(alloc, definitions.len())?;
     let mut complexities = Vec::new(alloc);
-    for i in 0..outlines.len() {
-        if outlines[i].is_operation {
-            let complexity = complexity_of(alloc, outlines, &mut states, i)?;
+    for i in 0..definitions.len() {
+        if definitions[i].fragment.is_none() {
+            let complexity = complexity_of(alloc, definitions, names, &mut states, i)?;
             complexities.push(OperationComplexity {
                 definition: i,
                 complexity,
@@ -93,9 +94,9 @@ pub(crate) fn outlined_complexities(
     Ok(complexities)
 }
 
-/// Whether no operation among these definitions has a spread.
-fn spread_nothing(definitions: &[DefinitionOutline<'_>]) -> bool
-    ensures yes { result ≡ true → SpreadNothing definitions.now }
+/// Whether no operation among these definitions has a spread. Then `own_complexity` returns the complexity of each.
+pub fn spread_nothing(definitions: &[DefinitionOutline<'_>]) -> bool
+    ensures yes { result ≡ true → (document : List (Seen Content)) → AreGathered definitions.now document → OperationsHave document 0 document (own_complexities 0 definitions.now) }
     ensures no { result ≡ false → ¬ SpreadNothing definitions.now }
 {
     for i in 0..definitions.len() {
@@ -116,16 +117,15 @@ fn own_complexities(
     alloc: Global,
     definitions: &[DefinitionOutline<'_>],
 ) -> Result<Vec<OperationComplexity>, AllocError>
-    requires { SpreadNothing definitions.now }
-    ensures { (document : List (Seen Content)) → AreGathered definitions.now document → IfOk result (λ complexities. OperationsHave document 0 document complexities.items) }
+    ensures { IfOk result (λ complexities. complexities.items ≡ own_complexities 0 definitions.now) }
 {
     let mut complexities = Vec::new(alloc);
     for i in 0..definitions.len() {
-        match definitions[i].fragment {
-            Some(_) => {}
-            None => complexities.push(OperationComplexity {
+        match definitions[i].own_complexity() {
+            None => {}
+            Some(complexity) => complexities.push(OperationComplexity {
                 definition: i,
-                complexity: definitions[i].own,
+                complexity,
             })?,
         }
     }
@@ -140,10 +140,6 @@ pub fn gathered_complexities(
     ensures complexities { (document : List (Seen Content)) → AreGathered definitions.now document → IfOk result (λ complexities. OperationsHave document 0 document complexities.items) }
     ensures failure { (document : List (Seen Content)) → AreGathered definitions.now document → FailsWithFirstFault document result }
 {
-    if spread_nothing(definitions) {
-        return Ok(own_complexities(alloc, definitions)?);
-    }
     let names = gathered_names(alloc, definitions)?;
-    let outlines = resolved_outlines(alloc, definitions, &names)?;
-    outlined_complexities(alloc, &outlines)
+    outlined_complexities(alloc, definitions, &names)
 }

@@ -3,7 +3,7 @@ ghost use Rattle.std.specs.Prelude.{◌≡◌, ◌++◌, ◌∷◌, [], List, On
 ghost use Rattle.juniper.specs.View.{view_word};
 ghost use Rattle.juniper_complexity.specs.Complexities.{capped_complexity};
 ghost use Rattle.juniper_complexity.specs.device.Sums.{plus_capped};
-ghost use Rattle.juniper_complexity.specs.Gathered.{Begins, OpensField, OpensSpread, counted_directives, outlines_in};
+ghost use Rattle.juniper_complexity.specs.Gathered.{Begins, OpensField, OpensSpread, counted_directives, outlines_in, own_complexity};
 ghost use Rattle.juniper_complexity.specs.declared.outline_builder.NamedSpread.{NamedSpread as Spread};
 
 use crate::complexity::Complexity;
@@ -57,6 +57,19 @@ pub struct DefinitionOutline<'a> {
     pub(crate) spreads: Vec<NamedSpread<'a>>,
     /// A number for the caller to keep.
     pub mark: usize,
+}
+
+impl DefinitionOutline<'_> {
+    /// The complexity of an operation with no spread expanded, or None of a fragment.
+    pub fn own_complexity(&self) -> Option<Complexity>
+        ensures { result ≡ own_complexity self.now }
+    {
+        if self.fragment.is_none() {
+            Some(self.own)
+        } else {
+            None
+        }
+    }
 }
 
 /// The outlines of definitions.

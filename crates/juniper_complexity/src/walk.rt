@@ -1,30 +1,17 @@
 //! The walk over definitions by the spreads in them, which finds the complexity of each. A chain of fragments takes
 //! memory and no stack, since the walk is a loop.
 ghost use Rattle.std.specs.Prelude.{◌≡◌, ◌<◌, Some, length, IfOk, OnOk};
-ghost use Rattle.juniper_complexity.specs.device.Walk.{OutlineHas, HasNext, AreRight, AreInRange, IsOpen, IsStep, IsBroken, Begins};
+ghost use Rattle.std.specs.Str.{chars};
+ghost use Rattle.juniper_complexity.specs.device.Resolved.{AreNamed, outlines_of, place_of, resolved};
+ghost use Rattle.juniper_complexity.specs.device.Walk.{OutlineHas, HasNext, AreRight, IsOpen, IsStep, IsBroken, Begins, Waits};
+ghost use Rattle.juniper_complexity.specs.declared.walk.Step.TheVariants.{NextSpread};
 
 use crate::complexity::{Complexity, ComplexityFailure};
+use crate::names::find_gathered;
+use crate::outline_builder::{DefinitionOutline, NamedSpread};
 use juniper_tokens::Span;
 use std::alloc::Global;
-
-/// A spread in a definition.
-#[derive(Clone, Copy)]
-pub(crate) struct Spread {
-    /// The index of the fragment that it names among the definitions, or None if there is no such fragment.
-    pub target: Option<usize>,
-    /// The number of fields around it.
-    pub fields_around: u64,
-    pub span: Span,
-}
-
-/// A definition: whether it is an operation, its complexity with no spread expanded, and the spreads in the order of the
-/// text.
-#[derive(Drop)]
-pub(crate) struct Outline {
-    pub is_operation: bool,
-    pub own: Complexity,
-    pub spreads: Vec<Spread>,
-}
+use std::collections::BTreeMap;
 
 /// How far the walk has come with a definition.
 #[derive(Clone, Copy)]
@@ -50,19 +37,19 @@ enum Step {
 
 /// Counts the next spread of an open definition, if its fragment is done; else returns what comes first.
 fn follow(
-    outlines: &[Outline],
+    outlines: &[DefinitionOutline<'_>],
     states: &mut [State],
     at: usize,
     next: usize,
     complexity: Complexity,
-    spread: &Spread,
+    spread: &NamedSpread<'_>,
     target: usize,
 ) -> Step
     requires places { (at < length outlines.now) × (length states.old ≡ length outlines.now) × (target < length outlines.now) }
-    requires next { HasNext outlines.now states.old at next complexity spread.now }
-    requires named { spread.now.target ≡ Some target }
+    requires next { HasNext (outlines_of outlines.now) states.old at next complexity (resolved (place_of outlines.now) spread.now) }
+    requires named { place_of outlines.now (chars spread.now.name.now) ≡ Some target }
     requires few { next < usize.MAX }
-    ensures { IsStep outlines.now states.old states.new at result }
+    ensures { IsStep (outlines_of outlines.now) states.old states.new at result }
 {
     match states[target] {
         State::Unvisited => {
@@ -80,12 +67,31 @@ fn follow(
     }
 }
 
-/// Takes one step in an open definition.
-fn advance(outlines: &[Outline], states: &mut [State], at: usize) -> Step
+/// Counts the spread at which an open definition waits, since its fragment is done.
+fn count(outlines: &[DefinitionOutline<'_>], states: &mut [State], at: usize, inner: Complexity)
     requires places { (at < length outlines.now) × (length states.old ≡ length outlines.now) }
-    requires targets { AreInRange outlines.now }
+    requires waits { Waits (outlines_of outlines.now) states.old at inner }
+    ensures { IsStep (outlines_of outlines.now) states.old states.new at NextSpread }
+{
+    let (next, complexity) = match states[at] {
+        State::Open(next, complexity) => (next, complexity),
+        _ => return,
+    };
+    let around = outlines[at].spreads[next].fields_around;
+    states[at] = State::Open(next + 1, complexity.plus(inner.at_level(around)));
+}
+
+/// Takes one step in an open definition.
+fn advance<'a>(
+    outlines: &[DefinitionOutline<'a>],
+    names: &BTreeMap<&'a str, usize>,
+    states: &mut [State],
+    at: usize,
+) -> Step
+    requires places { (at < length outlines.now) × (length states.old ≡ length outlines.now) }
+    requires names { AreNamed outlines.now names.now }
     requires open { IsOpen states.old at }
-    ensures { IsStep outlines.now states.old states.new at result }
+    ensures { IsStep (outlines_of outlines.now) states.old states.new at result }
 {
     let (next, complexity) = match states[at] {
         State::Open(next, complexity) => (next, complexity),
@@ -97,54 +103,56 @@ fn advance(outlines: &[Outline], states: &mut [State], at: usize) -> Step
         return Step::Done(complexity);
     }
     let spread = &outline.spreads[next];
-    match spread.target {
+    match find_gathered(outlines, names, spread.name) {
         None => Step::Unknown(spread.span),
         Some(target) => follow(outlines, states, at, next, complexity, spread, target),
     }
 }
 
 /// Finds the complexity of a definition.
-pub(crate) fn complexity_of(
+pub(crate) fn complexity_of<'a>(
     alloc: Global,
-    outlines: &[Outline],
+    outlines: &[DefinitionOutline<'a>],
+    names: &BTreeMap<&'a str, usize>,
     states: &mut [State],
     root: usize,
 ) -> Result<Complexity, ComplexityFailure>
     requires places { (root < length outlines.now) × (length states.old ≡ length outlines.now) }
-    requires targets { AreInRange outlines.now }
-    requires right { AreRight outlines.now states.old }
-    ensures complexity { IfOk result (λ complexity. OutlineHas outlines.now root complexity) }
-    ensures right { OnOk result (AreRight outlines.now states.new) }
-    ensures broken { IsBroken outlines.now root result }
+    requires names { AreNamed outlines.now names.now }
+    requires right { AreRight (outlines_of outlines.now) states.old }
+    ensures complexity { IfOk result (λ complexity. OutlineHas (outlines_of outlines.now) root complexity) }
+    ensures right { OnOk result (AreRight (outlines_of outlines.now) states.new) }
+    ensures broken { IsBroken (outlines_of outlines.now) root result }
 {
     match states[root] {
         State::Done(complexity) => Ok(complexity),
         State::Open(_, complexity) => Ok(complexity),
         State::Unvisited => {
             states[root] = State::Open(0, outlines[root].own);
-            walk(alloc, outlines, states, root)
+            walk(alloc, outlines, names, states, root)
         }
     }
 }
 
 /// Walks on from the one definition that is open.
-fn walk(
+fn walk<'a>(
     alloc: Global,
-    outlines: &[Outline],
+    outlines: &[DefinitionOutline<'a>],
+    names: &BTreeMap<&'a str, usize>,
     states: &mut [State],
     root: usize,
 ) -> Result<Complexity, ComplexityFailure>
     requires places { (root < length outlines.now) × (length states.old ≡ length outlines.now) }
-    requires targets { AreInRange outlines.now }
-    requires begun { Begins outlines.now states.old root }
-    ensures complexity { IfOk result (λ complexity. OutlineHas outlines.now root complexity) }
-    ensures right { OnOk result (AreRight outlines.now states.new) }
-    ensures broken { IsBroken outlines.now root result }
+    requires names { AreNamed outlines.now names.now }
+    requires begun { Begins (outlines_of outlines.now) states.old root }
+    ensures complexity { IfOk result (λ complexity. OutlineHas (outlines_of outlines.now) root complexity) }
+    ensures right { OnOk result (AreRight (outlines_of outlines.now) states.new) }
+    ensures broken { IsBroken (outlines_of outlines.now) root result }
 {
     let mut path = Vec::new(alloc);
     let mut at = root;
     loop {
-        match advance(outlines, states, at) {
+        match advance(outlines, names, states, at) {
             Step::NextSpread => {}
             Step::Enter(target) => {
                 path.push(at)?;
@@ -152,7 +160,10 @@ fn walk(
             }
             Step::Done(complexity) => match path.pop() {
                 None => return Ok(complexity),
-                Some(above) => at = above,
+                Some(above) => {
+                    count(outlines, states, above, complexity);
+                    at = above;
+                }
             },
             Step::Unknown(span) => return Err(ComplexityFailure::Unknown(span)),
             Step::Cycle(span) => return Err(ComplexityFailure::Cycle(span)),

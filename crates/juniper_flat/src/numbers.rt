@@ -3,6 +3,7 @@ ghost use Rattle.std.specs.Prelude.{◌≡◌, ◌<◌, ◌^◌, List, length, m
 ghost use Rattle.graphql_grammar.specs.Tree.{Definition};
 ghost use Rattle.graphql_nodes.specs.Nodes.{document_nodes};
 ghost use Rattle.juniper_complexity.specs.Faults.{OperationsHave};
+ghost use Rattle.juniper_complexity.specs.Gathered.{own_complexities};
 ghost use Rattle.juniper_values.specs.Scalar.{Content};
 ghost use Rattle.juniper_flat.specs.Both.{AreMarked};
 ghost use Rattle.juniper_flat.specs.Builders.{with_written};
@@ -35,6 +36,32 @@ pub(crate) fn write_numbers(
     for i in 0..found.len() {
         put(buffer, i, numbers_of(definitions, &found[i]));
     }
+}
+
+/// Writes the complexities of operations none of which has a spread, as `write_numbers` writes complexities. Returns how
+/// many they are.
+pub(crate) fn write_own_numbers(
+    definitions: &[DefinitionOutline<'_>],
+    buffer: &mut [Numbers],
+) -> usize
+    ensures written { (tree : List (Definition Content)) → AreMarked 0 definitions.now tree → length (document_nodes tree) < 2 ^ 32 → buffer.new ≡ with_written buffer.old 0 (map (numbers_of tree) (own_complexities 0 definitions.now)) }
+    ensures count { result ≡ length (own_complexities 0 definitions.now) }
+{
+    let mut count = 0;
+    for i in 0..definitions.len() {
+        match definitions[i].own_complexity() {
+            None => {}
+            Some(complexity) => {
+                let own = OperationComplexity {
+                    definition: i,
+                    complexity,
+                };
+                put(buffer, count, numbers_of(definitions, &own));
+                count += 1;
+            }
+        }
+    }
+    count
 }
 
 fn put(buffer: &mut [Numbers], index: usize, numbers: Numbers)

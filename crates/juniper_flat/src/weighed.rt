@@ -21,12 +21,13 @@ use crate::fault::{Fault, cycle_fault, deep_fault, many_fault, unknown_fault, wr
 use crate::flat::Lengths;
 use crate::limits::Limits;
 use crate::node::Node;
-use crate::numbers::{Numbers, write_numbers};
+use crate::numbers::{Numbers, write_numbers, write_own_numbers};
 use crate::scalar::SourceScalar;
 use crate::source::{Unread, text_of};
 use juniper::{LimitFailure, Limits as Within, ParseFailure, build_document_source};
 use juniper_complexity::{
-    ComplexityFailure, DefinitionOutline, DefinitionOutlines, OutlineBuilder, gathered_complexities,
+    ComplexityFailure, DefinitionOutline, DefinitionOutlines, OutlineBuilder,
+    gathered_complexities, spread_nothing,
 };
 use std::alloc::Global;
 use std::mem;
@@ -166,6 +167,10 @@ fn weigh(
 ) -> Result<Weighed, Unread>
     ensures { (text : List ℕ) (limits : Bounds) (tree : List (Definition Content)) (old_nodes new_nodes : List Written) (old_texts new_texts : List ℕ) → length text < 2 ^ 32 → IsTableOf (chars text) table.now → HasNodes text limits tree old_nodes new_nodes old_texts new_texts lengths → AreGathered definitions.now tree → AreMarked 0 definitions.now tree → ReturnsWeighed text limits old_nodes new_nodes old_texts new_texts complexities.old complexities.new result }
 {
+    if spread_nothing(definitions) {
+        let count = write_own_numbers(definitions, complexities);
+        return Ok(Weighed::Tree(lengths, count));
+    }
     match gathered_complexities(alloc, definitions) {
         Ok(found) => {
             write_numbers(definitions, &found, complexities);

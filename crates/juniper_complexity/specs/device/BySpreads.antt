@@ -1,10 +1,12 @@
 -- A device: the complexity of a definition, spread by spread.
 use Rattle.std.specs.Prelude.{◌≡◌, ℕ, suc, List, [], ◌∷◌, slice_get, Some}
 use Rattle.graphql_grammar.specs.Tree as tree
-use Rattle.graphql_grammar.specs.Tree.{Selection, Selections, no_selections, selection, OptionalSelections, absent, present, Definition}
+use Rattle.graphql_grammar.specs.Tree.{Selection, Selections, no_selections, selection, OptionalSelections, absent}
+use Rattle.graphql_grammar.specs.Tree.{present, Definition}
 use Rattle.juniper_complexity.specs.Complexities.{nothing, plus}
 use Rattle.juniper_complexity.specs.device.Sums.{at_level}
-use Rattle.juniper_complexity.specs.Parts.{Reference, directives_complexity, field_complexity, spreads_of_definition, fragment_at}
+use Rattle.juniper_complexity.specs.Parts.{Reference, directives_complexity, field_complexity, spreads_of_definition}
+use Rattle.juniper_complexity.specs.Parts.{fragment_at}
 use Rattle.juniper_complexity.specs.declared.complexity.Complexity.{Complexity}
 
 module _ {C : Type 0} where

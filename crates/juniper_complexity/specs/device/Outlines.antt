@@ -1,5 +1,5 @@
--- A device: outlines and names of the code, as the definitions see them.
-use Rattle.std.specs.Prelude.{◌≡◌, ℕ, List, [], ◌∷◌, ◌++◌, map, Option}
+-- A device: outlines, as the definitions see them.
+use Rattle.std.specs.Prelude.{◌≡◌, ℕ, List, [], ◌∷◌, map, Option}
 use Rattle.graphql_grammar.specs.Tokens.{Text}
 use Rattle.graphql_grammar.specs.Tree as tree
 use Rattle.graphql_grammar.specs.Tree.{Definition}
@@ -7,12 +7,10 @@ use Rattle.juniper_tokens.specs.Spans.{view_span}
 use Rattle.juniper_tokens.specs.declared.span.Spanning.{Spanning}
 use Rattle.juniper.specs.View.{view_word, view_directives}
 use Rattle.juniper.specs.declared.tree.ast.FragmentSpread.{FragmentSpread}
-use Rattle.juniper_complexity.specs.Complexities.{plus, capped, capped_complexity}
+use Rattle.juniper_complexity.specs.Complexities.{capped, capped_complexity}
 use Rattle.juniper_complexity.specs.Parts.{Reference, spreads_of_definition, is_operation}
 use Rattle.juniper_complexity.specs.device.BySpreads.{own_of_definition}
-use Rattle.juniper_complexity.specs.declared.complexity.Complexity.{Complexity}
-use Rattle.juniper_complexity.specs.declared.walk.Outline.{Outline}
-use Rattle.juniper_complexity.specs.declared.walk.Spread.{Spread}
+use Rattle.juniper_complexity.specs.device.Walk.{Outline, Spread}
 
 -- the spread of the code that is this one
 abbrev pub coded : (Text → Option ℕ) → Reference → Spread
@@ -22,19 +20,11 @@ coded place r = record {
   span = record { start = r.span.start; end = r.span.end };
 }
 
--- The outline has gained what is inside so many fields.
-pub record Gains (place : Text → Option ℕ) (level : ℕ) (old new : Outline) (own : ℕ → Complexity)
-    (spreads : ℕ → List Reference) : Type 0 where
-  pub own_complexity : (l : ℕ) (x : Complexity) → level ≡ capped l → old.own ≡ capped_complexity x
-      → new.own ≡ capped_complexity (plus x (own l))
-  pub own_spreads : (l : ℕ) → level ≡ capped l
-      → new.spreads.items ≡ old.spreads.items ++ map (coded place) (spreads l)
-
 module _ {C : Type 0} (place : Text → Option ℕ) where
   pub record IsOutline (d : Definition C) (o : Outline) : Type 0 where
     pub is_one : o.is_operation ≡ is_operation d
     pub own_complexity : o.own ≡ capped_complexity (own_of_definition d)
-    pub own_spreads : o.spreads.items ≡ map (coded place) (spreads_of_definition d)
+    pub own_spreads : o.spreads ≡ map (coded place) (spreads_of_definition d)
 
   -- the outlines of these definitions
   abbrev pub AreOutlines : List (Definition C) → List Outline → Type 0

@@ -1,22 +1,34 @@
 -- A device: what the walk over outlines finds.
-use Rattle.std.specs.Prelude.{◌≡◌, ◌<◌, ◌≤◌, ◌+◌, ℕ, List, [], ◌∷◌, length, set, slice_get, Some, None, Result, Ok, Err}
+use Rattle.std.specs.Prelude.{◌≡◌, ◌≤◌, ◌+◌, ℕ, Bool, List, [], ◌∷◌, length, set, slice_get, Option, Some, None}
+use Rattle.std.specs.Prelude.{Result, Ok, Err}
+use Rattle.juniper_tokens.specs.declared.span.Span.{Span}
 use Rattle.juniper_complexity.specs.Faults.{IsAmong}
 use Rattle.juniper_complexity.specs.device.Sums.{plus_capped, at_level_capped}
 use Rattle.juniper_complexity.specs.declared.complexity.Complexity.{Complexity}
 use Rattle.juniper_complexity.specs.declared.complexity.ComplexityFailure.{ComplexityFailure}
 use Rattle.juniper_complexity.specs.declared.complexity.ComplexityFailure.TheVariants as failure
-use Rattle.juniper_complexity.specs.declared.walk.Outline.{Outline}
-use Rattle.juniper_complexity.specs.declared.walk.Spread.{Spread}
 use Rattle.juniper_complexity.specs.declared.walk.State.{State}
 use Rattle.juniper_complexity.specs.declared.walk.State.TheVariants as state
 use Rattle.juniper_complexity.specs.declared.walk.Step.{Step}
 use Rattle.juniper_complexity.specs.declared.walk.Step.TheVariants as step
 
+-- A spread: the index of the fragment that it names, if there is one, the number of fields around it, and its span.
+pub record Spread : Type 0 where
+  pub target : Option ℕ
+  pub fields_around : ℕ
+  pub span : Span
+
+-- A definition: whether it is an operation, its complexity with no spread expanded, and its spreads.
+pub record Outline : Type 0 where
+  pub is_operation : Bool
+  pub own : Complexity
+  pub spreads : List Spread
+
 module _ (g : List Outline) where
   mutual
     -- The definition of the outline at this index has this complexity: its own, and those of its spreads.
     pub data OutlineHas : ℕ → Complexity → Type 0 where
-      outline_has : {i : ℕ} {c : Complexity} (o : Outline) → slice_get g i ≡ Some o → AddsUpTo o.own o.spreads.items c
+      outline_has : {i : ℕ} {c : Complexity} (o : Outline) → slice_get g i ≡ Some o → AddsUpTo o.own o.spreads c
           → OutlineHas i c
 
     -- A complexity, and that of the fragment of each of these spreads, are this together.
@@ -33,14 +45,14 @@ module _ (g : List Outline) where
     names_outer : {inside : List ℕ} {s : Spread} {ss : List Spread} (t : ℕ) → s.target ≡ Some t → IsAmong t inside
         → Breaks inside (s ∷ ss) (failure.Cycle s.span)
     breaks_within : {inside : List ℕ} {s : Spread} {ss : List Spread} {f : ComplexityFailure} (t : ℕ) (o : Outline)
-        → s.target ≡ Some t → ¬ IsAmong t inside → slice_get g t ≡ Some o → Breaks (t ∷ inside) o.spreads.items f
+        → s.target ≡ Some t → ¬ IsAmong t inside → slice_get g t ≡ Some o → Breaks (t ∷ inside) o.spreads f
         → Breaks inside (s ∷ ss) f
     breaks_after : {inside : List ℕ} {s : Spread} {ss : List Spread} {f : ComplexityFailure} (t : ℕ) (b : Complexity)
         → s.target ≡ Some t → OutlineHas t b → Breaks inside ss f → Breaks inside (s ∷ ss) f
 
   -- the definition of the outline at this index fails so
   abbrev pub BreaksAt : ℕ → ComplexityFailure → Type 0
-  BreaksAt root f = (o : Outline) → slice_get g root ≡ Some o → Breaks (root ∷ []) o.spreads.items f
+  BreaksAt root f = (o : Outline) → slice_get g root ≡ Some o → Breaks (root ∷ []) o.spreads f
 
   -- If there is a failure, and memory didn't run out, it is that of this definition.
   abbrev pub IsBroken : ℕ → Result Complexity ComplexityFailure → Type 0
@@ -48,11 +60,6 @@ module _ (g : List Outline) where
   IsBroken root (Err failure.Memory) = Unit {0}
   IsBroken root (Err (failure.Cycle span)) = BreaksAt root (failure.Cycle span)
   IsBroken root (Err (failure.Unknown span)) = BreaksAt root (failure.Unknown span)
-
-  -- spreads name definitions that are there
-  pub record AreInRange : Type 0 where
-    pub below : (i j t : ℕ) (o : Outline) (s : Spread) → slice_get g i ≡ Some o → slice_get o.spreads.items j ≡ Some s
-        → s.target ≡ Some t → t < length g
 
   -- no definition is open, and those that are done have the complexities that are kept
   pub record AreRight (ss : List State) : Type 0 where
@@ -74,11 +81,26 @@ pub record IsNext (g : List Outline) (ss : List State) (at n : ℕ) (a : Complex
     (s : Spread) : Type 0 where
   pub outline : slice_get g at ≡ Some o
   pub open_at : slice_get ss at ≡ Some (state.Open n a)
-  pub spread : slice_get o.spreads.items n ≡ Some s
+  pub spread : slice_get o.spreads n ≡ Some s
 
 pub record HasNext (g : List Outline) (ss : List State) (at n : ℕ) (a : Complexity) (s : Spread) : Type 0 where
   pub of : Outline
   pub next : IsNext g ss at n a of s
+
+-- The definition at this index is open, and its next spread names the definition at the other.
+pub record LeadsTo (g : List Outline) (ss : List State) (at inner : ℕ) : Type 0 where
+  pub next : ℕ
+  pub complexity : Complexity
+  pub of : Outline
+  pub spread : Spread
+  pub is_next : IsNext g ss at next complexity of spread
+  pub named : spread.target ≡ Some inner
+
+-- The definition at this index waits at a spread whose fragment is done, with this complexity.
+pub record Waits (g : List Outline) (ss : List State) (at : ℕ) (c : Complexity) : Type 0 where
+  pub target : ℕ
+  pub leads : LeadsTo g ss at target
+  pub is_done : slice_get ss target ≡ Some (state.Done c)
 
 -- The root alone is open, and none of its spreads is counted yet.
 pub record Begins (g : List Outline) (ss : List State) (root : ℕ) : Type 0 where
@@ -92,7 +114,7 @@ pub record Begins (g : List Outline) (ss : List State) (root : ℕ) : Type 0 whe
 -- one step
 pub data IsStep (g : List Outline) (old new : List State) (at : ℕ) : Step → Type 0 where
   step_done : (n : ℕ) (a : Complexity) (o : Outline) → slice_get g at ≡ Some o
-      → slice_get old at ≡ Some (state.Open n a) → length o.spreads.items ≤ n → new ≡ set old at (state.Done a)
+      → slice_get old at ≡ Some (state.Open n a) → length o.spreads ≤ n → new ≡ set old at (state.Done a)
       → IsStep g old new at (step.Done a)
   step_spread : (n t : ℕ) (a b : Complexity) (o : Outline) (s : Spread) → IsNext g old at n a o s → s.target ≡ Some t
       → slice_get old t ≡ Some (state.Done b)

@@ -4,7 +4,7 @@ use Rattle.std.proofs.lemmas.List.{nil_from_length}
 use Rattle.std.proofs.lemmas.Option.{slice_get_read, slice_get_within}
 use Rattle.std.specs.List.{slice_get}
 use Rattle.juniper_complexity.specs.declared.outline_builder.DefinitionOutline.{DefinitionOutline}
-use Rattle.juniper_complexity.proofs.OwnComplexities.{same_fragment}
+use Rattle.juniper_complexity.proofs.OwnComplexities.{same_fragment, own_have}
 use Rattle.juniper_complexity.proofs.operations.spread_nothing.Goals as goal
 use Rattle.juniper_complexity.proofs.operations.spread_nothing.Goals.{in-Some, in-None+else-not-is_empty}
 
@@ -37,6 +37,7 @@ loop-i-preserved c = record {
 }
 
 pub returns-clause-yes : goal.returns-clause-yes
-returns-clause-yes c _ j o at none =
+returns-clause-yes c _ ds gathered =
+    own_have c.args.definitions.now ds gathered (λ j o at none.
     let inside = slice_get_within c.args.definitions.now j o at in
-    c.loop-i.invariant.so_far j o at (omega (arith, inside)) none
+    c.loop-i.invariant.so_far j o at (omega (arith, inside)) none)

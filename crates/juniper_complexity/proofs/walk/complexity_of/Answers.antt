@@ -1,7 +1,8 @@
 use Rattle.std.proofs.Common.{get_or, refl, arith}
 use Rattle.std.proofs.lemmas.Option.{slice_get-get_or}
 use Rattle.juniper_complexity.specs.declared.walk.State.TheVariants as state
-use Rattle.juniper_complexity.proofs.Elements.{read_at}
+use Rattle.juniper_complexity.specs.device.Resolved.{outline_of, place_of}
+use Rattle.juniper_complexity.proofs.Elements.{read_at, outline_at}
 use Rattle.juniper_complexity.proofs.Places.{written}
 use Rattle.juniper_complexity.proofs.walk.complexity_of.Goals as goal
 
@@ -18,17 +19,17 @@ returns-in-Open-clause-complexity c =
 
 pub walk-requires-clause-begun : goal.walk-requires-clause-begun
 walk-requires-clause-begun c =
-    let g = c.args.outlines.now in
+    let os = c.args.outlines.now in
     let root = c.args.root in
     let old = c.args.states.now in
-    let o = get_or g root c.index-outlines-root.result in
+    let o = get_or os root c.index-outlines-root.result in
     let w = written old _ root (state.Open 0 o.own) state.Unvisited
     (read_at old root state.Unvisited (omega arith) c.in-Unvisited.is) refl in
     record {
       old = old;
       was_right = c.requires.right;
-      of = o;
-      outline = slice_get-get_or g root c.index-outlines-root.result (omega arith);
+      of = outline_of (place_of os) o;
+      outline = outline_at os root o (slice_get-get_or os root c.index-outlines-root.result (omega arith));
       here = w.here;
       others = w.others;
     }

@@ -1,9 +1,10 @@
-use Rattle.std.proofs.Common.{◌^◌, ◌<◌, ℕ, List, length, map, refl, ap, sym, subst, arith}
+use Rattle.std.proofs.Common.{◌^◌, ◌<◌, ℕ, List, length, map, refl, ap, sym, subst, ◌∙◌, arith}
 use Rattle.std.proofs.lemmas.List.{length-map}
 use Rattle.std.specs.Str.{chars}
 use Rattle.graphql_grammar.specs.Tree.{Definition}
 use Rattle.graphql_nodes.specs.Nodes.{document_nodes}
 use Rattle.juniper_complexity.specs.Faults.{OfUnknown, OfCycle, view_failure}
+use Rattle.juniper_complexity.specs.Gathered.{own_complexities}
 use Rattle.juniper_tokens.specs.Spans.{view_span}
 use Rattle.juniper_values.specs.Scalar.{Content}
 use Rattle.juniper_flat.specs.Answers.{HasDocument, Fills}
@@ -20,6 +21,26 @@ few_nodes : (text : List ℕ) (limits : Limits) (tree : List (Definition Content
 few_nodes text limits tree short document =
     let within = within_source text limits tree document in
     omega (arith, within.0, written-length (chars text) 0 (document_nodes tree), short)
+
+pub returns-then-spread_nothing : goal.returns-then-spread_nothing
+returns-then-spread_nothing c text limits tree on nn ot nt short table nodes gathered marks =
+    let own = own_complexities 0 c.args.definitions.now in
+    let have = c.spread_nothing.ensures.yes c.if-spread_nothing.true tree gathered in
+    let few = few_nodes text limits tree short nodes.document in
+    let numbers = map (numbers_of tree) own in (
+      short,
+      (
+        tree,
+        nodes,
+        (
+          numbers,
+          record { complexities = own; operations = have; are = refl },
+          subst (Fills numbers c.args.complexities.now) (sym (c.write_own_numbers-count.ensures.written tree marks few))
+              (fills_all numbers c.args.complexities.now),
+          c.write_own_numbers-count.ensures.count ∙ sym (length-map own (numbers_of tree)),
+        ),
+      ),
+    )
 
 pub returns-in-Ok : goal.returns-in-Ok
 returns-in-Ok c text limits tree on nn ot nt short table nodes gathered marks =

@@ -2,21 +2,20 @@ use Rattle.std.proofs.Common.{◌≡◌, ◌+◌, ◌++◌, ◌∷◌, [], map, 
 use Rattle.std.proofs.Math.Seq.{take-suc}
 use Rattle.std.proofs.lemmas.List.{map-append}
 use Rattle.juniper.specs.View.{view_definition}
-use Rattle.juniper_complexity.proofs.Bridge.{outline_more}
-use Rattle.juniper_complexity.proofs.outline.outlines.Goals as goal
+use Rattle.juniper_complexity.proofs.OwnComplexities.{gathered_more}
+use Rattle.juniper_complexity.proofs.tree_outlines.tree_outlines.Goals as goal
 
 pub loop-definition-preserved : goal.loop-definition-preserved
-loop-definition-preserved g c place knows =
-    let content = g.S.ParseScalarValue.content in
+loop-definition-preserved g c =
     let l = c.loop-definition in
     let xs = c.args.document.now in
     let x = c.definition-item.result in
     let i = l.definition-index in
-    let view = view_definition content in
+    let view = view_definition g.S.ParseScalarValue.content in
     let longer : map view (take (i + 1) xs) ≡ map view (take i xs) ++ view x ∷ [] =
     ap (λ k. map view (take k xs)) (add-one i)
     ∙ (ap (map view) (take-suc xs i x (omega arith) ∙ ap (λ y. take i xs ++ y ∷ []) (sym c.definition-item.is))
     ∙ map-append view (take i xs) (x ∷ [])) in
     rw (longer, c.in_ok-push.ensures.items)
-    (outline_more place (map view (take i xs)) l.outlines.items (view x) c.in_ok-outline_of.field-0
-    (l.invariant place knows) (c.in_ok-outline_of.ensures place knows))
+    (gathered_more l.outlines.items (map view (take i xs)) c.in_ok-gather_definition.field-0 (view x) l.invariant
+    c.in_ok-gather_definition.ensures)
