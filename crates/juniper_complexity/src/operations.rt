@@ -97,6 +97,7 @@ fn outlined_complexities<'a>(
 /// Whether no operation among these definitions has a spread. Then `own_complexity` returns the complexity of each.
 pub fn spread_nothing(definitions: &[DefinitionOutline<'_>]) -> bool
     ensures yes { result ≡ true → (document : List (Seen Content)) → AreGathered definitions.now document → OperationsHave document 0 document (own_complexities 0 definitions.now) }
+    ensures nothing { result ≡ true → SpreadNothing definitions.now }
     ensures no { result ≡ false → ¬ SpreadNothing definitions.now }
 {
     for i in 0..definitions.len() {

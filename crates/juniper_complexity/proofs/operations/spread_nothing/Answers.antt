@@ -36,8 +36,13 @@ loop-i-preserved c = record {
       ];
 }
 
+pub returns-clause-nothing : goal.returns-clause-nothing
+returns-clause-nothing c _ j o at none =
+    let inside = slice_get_within c.args.definitions.now j o at in
+    c.loop-i.invariant.so_far j o at (omega (arith, inside)) none
+
 pub returns-clause-yes : goal.returns-clause-yes
-returns-clause-yes c _ ds gathered =
+returns-clause-yes c told ds gathered =
     own_have c.args.definitions.now ds gathered (λ j o at none.
     let inside = slice_get_within c.args.definitions.now j o at in
     c.loop-i.invariant.so_far j o at (omega (arith, inside)) none)
