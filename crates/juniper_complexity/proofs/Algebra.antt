@@ -1,8 +1,8 @@
 -- Sums of complexities, exact and with the numbers of the code.
 use Rattle.std.proofs.Common.{◌≡◌, ◌+◌, ◌-◌, ◌^◌, ℕ, zero, suc, min, refl, arith}
-use Rattle.juniper_complexity.specs.Complexities.{nothing, plus, capped, capped_complexity}
-use Rattle.juniper_complexity.specs.device.Sums.{at_level, plus_capped, at_level_capped}
-use Rattle.juniper_complexity.specs.declared.complexity.Complexity.{Complexity}
+use Rattle.juniper_outlines.specs.Complexities.{nothing, plus, capped, capped_complexity}
+use Rattle.juniper_outlines.specs.Sums.{at_level, plus_capped, at_level_capped}
+use Rattle.juniper_outlines.specs.declared.complexity.Complexity.{Complexity}
 
 same_parts : (f f' a a' d d' r r' e e' : ℕ) → f ≡ f' → a ≡ a' → d ≡ d' → r ≡ r' → e ≡ e'
     → ◌≡◌ {A = Complexity} (record { fields = f; aliases = a; directives = d; root_fields = r; depth = e })

@@ -1,40 +1,23 @@
--- What the walk over outlines finds, in the words of the document.
-use Rattle.std.proofs.Common.{◌≡◌, ◌<◌, ◌+◌, ℕ, zero, suc, true, false, List, [], ◌∷◌, map, length, Option, Some, None}
-use Rattle.std.proofs.Common.{Result, Ok, Err, refl, ap, sym, subst, ◌∙◌, arith, Bool, cond}
-use Rattle.std.specs.List.{slice_get, position_from}
-use Rattle.std.specs.Result.{IsErrAnd}
+-- What outlines have, in the words of the document.
+use Rattle.std.proofs.Common.{◌≡◌, ℕ, zero, suc, List, [], ◌∷◌, map, Option, Some, None, refl, ap, sym, subst, ◌∙◌}
+use Rattle.std.specs.List.{slice_get}
 use Rattle.graphql_grammar.specs.Tokens.{Text}
 use Rattle.graphql_grammar.specs.Tree.{Definition}
 use Rattle.juniper_tokens.specs.Spans.{view_span}
-use Rattle.juniper_complexity.specs.Complexities.{plus, capped, capped_complexity}
-use Rattle.juniper_complexity.specs.device.Sums.{at_level, plus_capped, at_level_capped}
-use Rattle.juniper_complexity.specs.device.Walk.{Outline, Spread, OutlineHas, outline_has, AddsUpTo, no_spread}
-use Rattle.juniper_complexity.specs.device.Walk.{spread_first, Breaks}
-use Rattle.juniper_complexity.specs.device.Walk.{names_none, names_outer, breaks_within, breaks_after, BreaksAt}
-use Rattle.juniper_complexity.specs.device.Walk.{IsBroken}
-use Rattle.juniper_complexity.specs.Parts.{Reference, spreads_of_definition, is_operation, fragment_at}
+use Rattle.juniper_outlines.specs.Complexities.{plus, capped, capped_complexity}
+use Rattle.juniper_outlines.specs.Sums.{at_level, plus_capped, at_level_capped}
+use Rattle.juniper_outlines.specs.Outlines.{Outline, Spread, OutlineHas, outline_has, AddsUpTo, no_spread}
+use Rattle.juniper_outlines.specs.Outlines.{spread_first, Breaks, names_none, names_outer, breaks_within, breaks_after}
+use Rattle.juniper_complexity.specs.Parts.{Reference, spreads_of_definition, fragment_at}
 use Rattle.juniper_complexity.specs.device.BySpreads.{own_of_definition, HasBySpreads, has_by_spreads, SpreadsAdd}
 use Rattle.juniper_complexity.specs.device.BySpreads.{none_adds, first_adds}
-use Rattle.juniper_complexity.specs.Faults.{EarlierHave, SpreadFault, OfCycle, OfUnknown, CannotExpand, of_none}
-use Rattle.juniper_complexity.specs.Faults.{of_outer, in_fragment, in_others}
+use Rattle.juniper_complexity.specs.Faults.{SpreadFault, OfCycle, OfUnknown, CannotExpand, of_none, of_outer}
+use Rattle.juniper_complexity.specs.Faults.{in_fragment, in_others, view_failure}
 use Rattle.juniper_complexity.specs.device.Outlines.{coded, IsOutline, AreOutlines}
-use Rattle.juniper_complexity.specs.Faults.{view_failure, FailsWithFirstFault}
-use Rattle.juniper_complexity.specs.declared.complexity.Complexity.{Complexity}
-use Rattle.juniper_complexity.specs.declared.complexity.ComplexityFailure.{ComplexityFailure}
-use Rattle.juniper_complexity.specs.declared.complexity.ComplexityFailure.TheVariants as failure
+use Rattle.juniper_outlines.specs.declared.complexity.Complexity.{Complexity}
+use Rattle.juniper_outlines.specs.declared.complexity.ComplexityFailure.{ComplexityFailure}
 use Rattle.juniper_complexity.proofs.Expanding.{expanded}
 use Rattle.juniper_complexity.proofs.Algebra.{at_capped_level, capped_plus}
-
--- ---- places
-
-pub position_below : {X : Type 0} (test : X → Bool) (i : ℕ) (xs : List X) (t : ℕ) → position_from test i xs ≡ Some t
-    → t < i + length xs
-position_below test i [] t e = absurd cc
-position_below test i (x ∷ xs) t e =
-    elim (test x) as (λ b. cond b (Some i) (position_from test (i + 1) xs) ≡ Some t → t < i + suc (length xs)) [
-      | true ↦ λ f. (let s : i ≡ t = cc in omega arith)
-      | false ↦ λ f. (let k = position_below test (i + 1) xs t f in omega arith)
-    ] e
 
 module _ {A B : Type 0} (f : A → B) where
   pub map_nil : (rs : List A) → [] ≡ map f rs → rs ≡ []
@@ -183,10 +166,10 @@ module _ {C : Type 0} (ds : List (Definition C)) (g : List Outline) (h : AreOutl
             on_list w.list (in_others t x.definition n.exact target x.stands x.expands m.cannot);
       }
 
--- ---- failures
+-- ---- definitions
 
 -- the outline of a definition
-found : {C : Type 0} (place : Text → Option ℕ) (ds : List (Definition C)) (g : List Outline)
+pub found : {C : Type 0} (place : Text → Option ℕ) (ds : List (Definition C)) (g : List Outline)
     → AreOutlines place ds g → (i : ℕ) (d : Definition C)
     → slice_get ds i ≡ Some d → (o : Outline) × (slice_get g i ≡ Some o) × IsOutline place d o
 found place [] [] h i d e = absurd cc
@@ -194,34 +177,3 @@ found place [] (p ∷ g) h i d e = absurd h
 found place (f ∷ ds) [] h i d e = absurd h
 found place (f ∷ ds) (p ∷ g) h zero d e = let same : f ≡ d = cc in (p, refl, rw (← same) h.0)
 found place (f ∷ ds) (p ∷ g) h (suc i) d e = found place ds g h.1 i d e
-
-module _ (X : Type 0) {C : Type 0} (ds : List (Definition C)) (g : List Outline)
-    (h : AreOutlines (fragment_at ds) ds g) (i : ℕ) (d : Definition C)
-    (stands : slice_get ds i ≡ Some d) (is_one : is_operation d ≡ true) (before : EarlierHave ds i) where
-  faulty : (f : ComplexityFailure) → BreaksAt g i f → FailsWithFirstFault {X = X} ds (Err f)
-  faulty f breaks fault q =
-      let o = found (fragment_at ds) ds g h i d stands in
-      let m = fault_means ds g h (breaks o.0 o.1) (spreads_of_definition d) o.2.own_spreads in
-      let seen = m.seen in
-      let same : m.fault ≡ fault = cc in (
-        i,
-        record {
-          operation = d;
-          stands = stands;
-          is_one = is_one;
-          before = before;
-          fault = subst (λ (z : SpreadFault). CannotExpand ds (i ∷ []) (spreads_of_definition d) z) same m.cannot;
-        },
-      )
-
-  pub fails : (f : ComplexityFailure) → IsBroken g i (Err f) → FailsWithFirstFault {X = X} ds (Err f)
-  fails failure.Memory b = λ fault q. absurd cc
-  fails (failure.Cycle span) b = faulty (failure.Cycle span) b
-  fails (failure.Unknown span) b = faulty (failure.Unknown span) b
-
-  pub fails_on : (r : Result X ComplexityFailure) (f : ComplexityFailure) (P : ComplexityFailure → Type 0)
-      → IsErrAnd r P → ((z : ComplexityFailure) → P z → z ≡ f)
-      → IsBroken g i (Err f) → FailsWithFirstFault ds r
-  fails_on (Ok x) f P k same b = tt
-  fails_on (Err z) f P k same b =
-      subst (λ (y : ComplexityFailure). FailsWithFirstFault {X = X} ds (Err y)) (sym (same z k)) (fails f b)

@@ -1,10 +1,10 @@
 -- A field that is entered, counted number by number.
 use Rattle.std.proofs.Common.{◌≡◌, ◌+◌, ◌-◌, ◌^◌, ℕ, zero, suc, min, max, Option, refl, arith}
 use Rattle.graphql_grammar.specs.Tokens.{Word}
-use Rattle.juniper_complexity.specs.Complexities.{plus, capped, capped_complexity}
+use Rattle.juniper_outlines.specs.Complexities.{plus, capped, capped_complexity}
 use Rattle.juniper_complexity.specs.Parts.{alias_count, field_complexity}
-use Rattle.juniper_complexity.specs.device.Sums.{at_level}
-use Rattle.juniper_complexity.specs.declared.complexity.Complexity.{Complexity}
+use Rattle.juniper_outlines.specs.Sums.{at_level}
+use Rattle.juniper_outlines.specs.declared.complexity.Complexity.{Complexity}
 use Rattle.juniper_complexity.proofs.Algebra.{same_complexity}
 
 -- how many fields at the root a field is, inside so many others

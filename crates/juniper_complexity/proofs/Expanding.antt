@@ -6,15 +6,15 @@ use Rattle.graphql_lexical.specs.Place.{Span}
 use Rattle.graphql_grammar.specs.Tokens.{Word}
 use Rattle.graphql_grammar.specs.Tree.{Directives, Selection, Selections, no_selections, selection, absent, present}
 use Rattle.graphql_grammar.specs.Tree.{Definition}
-use Rattle.juniper_complexity.specs.Complexities.{nothing, plus, in_a_field}
-use Rattle.juniper_complexity.specs.device.Sums.{at_level}
+use Rattle.juniper_outlines.specs.Complexities.{nothing, plus, in_a_field}
+use Rattle.juniper_outlines.specs.Sums.{at_level}
 use Rattle.juniper_complexity.specs.Parts.{Reference, directive_count, directives_complexity, field_complexity}
 use Rattle.juniper_complexity.specs.Parts.{spreads_of, spreads_of_all, spreads_of_definition, fragment_at}
 use Rattle.juniper_complexity.specs.device.BySpreads.{own_of, own_of_all, own_of_definition, HasBySpreads}
 use Rattle.juniper_complexity.specs.device.BySpreads.{has_by_spreads, SpreadsAdd, none_adds, first_adds}
 use Rattle.juniper_complexity.specs.Expansion.{DefinitionHas, operation, fragment, SelectionsHave, none_have, first_has}
 use Rattle.juniper_complexity.specs.Expansion.{SelectionHas, leaf, field, spread, inline}
-use Rattle.juniper_complexity.specs.declared.complexity.Complexity.{Complexity}
+use Rattle.juniper_outlines.specs.declared.complexity.Complexity.{Complexity}
 use Rattle.juniper_complexity.proofs.Algebra.{plus_assoc, plus_nothing, nothing_plus}
 use Rattle.juniper_complexity.proofs.Levels.{Sums, sums_none, sums_row, sums_leaf, sums_field, sums_spread, sums_inline}
 use Rattle.juniper_complexity.proofs.Levels.{sums_whole}

@@ -2,15 +2,15 @@
 use Rattle.std.proofs.Common.{◌≡◌, ℕ, suc, List, [], ◌∷◌, ◌++◌, Some, ap, sym, subst, ◌∙◌}
 use Rattle.std.specs.List.{slice_get}
 use Rattle.graphql_grammar.specs.Tree.{Selection, Selections, Definition}
-use Rattle.juniper_complexity.specs.Complexities.{plus}
-use Rattle.juniper_complexity.specs.device.Sums.{at_level}
+use Rattle.juniper_outlines.specs.Complexities.{plus}
+use Rattle.juniper_outlines.specs.Sums.{at_level}
 use Rattle.juniper_complexity.specs.Parts.{Reference, directive_count, directives_complexity, spreads_of}
 use Rattle.juniper_complexity.specs.Parts.{spreads_of_all, fragment_at}
 use Rattle.juniper_complexity.specs.device.BySpreads.{own_of, own_of_all, HasBySpreads, has_by_spreads, SpreadsAdd}
 use Rattle.juniper_complexity.specs.device.BySpreads.{none_adds, first_adds}
 use Rattle.juniper_complexity.specs.Expansion.{DefinitionHas, operation, fragment, SelectionsHave, none_have, first_has}
 use Rattle.juniper_complexity.specs.Expansion.{SelectionHas, leaf, field, spread, inline}
-use Rattle.juniper_complexity.specs.declared.complexity.Complexity.{Complexity}
+use Rattle.juniper_outlines.specs.declared.complexity.Complexity.{Complexity}
 use Rattle.juniper_complexity.proofs.Algebra.{plus_assoc, plus_nothing, nothing_plus}
 use Rattle.juniper_complexity.proofs.Expanding.{sum}
 use Rattle.juniper_complexity.proofs.Levels.{Sums, sums_none, sums_row, sums_leaf, sums_field, sums_spread, sums_inline}

@@ -1,10 +1,10 @@
 -- Sums of what stands at a level.
 use Rattle.std.proofs.Common.{◌≡◌, ◌+◌, ℕ, zero, suc, max, Option, refl, arith}
 use Rattle.graphql_grammar.specs.Tokens.{Word}
-use Rattle.juniper_complexity.specs.Complexities.{nothing, plus, in_a_field}
-use Rattle.juniper_complexity.specs.device.Sums.{at_level}
+use Rattle.juniper_outlines.specs.Complexities.{nothing, plus, in_a_field}
+use Rattle.juniper_outlines.specs.Sums.{at_level}
 use Rattle.juniper_complexity.specs.Parts.{field_complexity}
-use Rattle.juniper_complexity.specs.declared.complexity.Complexity.{Complexity}
+use Rattle.juniper_outlines.specs.declared.complexity.Complexity.{Complexity}
 use Rattle.juniper_complexity.proofs.Algebra.{same_complexity}
 
 abbrev pub only : ℕ → Complexity

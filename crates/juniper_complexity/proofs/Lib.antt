@@ -1,15 +1,10 @@
-pub mod Places
-pub mod Steps
-pub mod Measure
-pub mod Elements
 pub mod Algebra
 pub mod EnteredFields
 pub mod OutlineBuilders
 pub mod ResolvedOutlines
-pub mod OwnComplexities
 pub mod Selecting
 pub mod Bridge
-pub mod Counting
+pub mod OutlinedOperations
 pub mod Unique
 pub mod Levels
 pub mod Expanding

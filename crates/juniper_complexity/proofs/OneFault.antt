@@ -4,10 +4,11 @@ use Rattle.std.specs.List.{slice_get}
 use Rattle.graphql_grammar.specs.Tree.{Definition}
 use Rattle.juniper_complexity.specs.Parts.{Reference, spreads_of_definition, fragment_at}
 use Rattle.juniper_complexity.specs.Expansion.{DefinitionHas}
-use Rattle.juniper_complexity.specs.Faults.{IsAmong, SpreadFault, OfCycle, OfUnknown, CannotExpand, of_none, of_outer}
+use Rattle.juniper_outlines.specs.Outlines.{IsAmong}
+use Rattle.juniper_complexity.specs.Faults.{SpreadFault, OfCycle, OfUnknown, CannotExpand, of_none, of_outer}
 use Rattle.juniper_complexity.specs.Faults.{in_fragment, in_others}
 use Rattle.juniper_complexity.specs.device.BySpreads.{HasBySpreads}
-use Rattle.juniper_complexity.specs.declared.complexity.Complexity.{Complexity}
+use Rattle.juniper_outlines.specs.declared.complexity.Complexity.{Complexity}
 use Rattle.juniper_complexity.proofs.Gathering.{gathers}
 use Rattle.juniper_complexity.proofs.Unique.{never_inside}
 

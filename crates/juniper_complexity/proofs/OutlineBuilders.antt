@@ -13,16 +13,16 @@ use Rattle.juniper.specs.Building.{BuildsEach, BuildsOptional}
 use Rattle.juniper_tokens.specs.Spans.{view_span}
 use Rattle.juniper_tokens.specs.declared.span.Span as code
 use Rattle.juniper_values.specs.Scalar.{Content}
-use Rattle.juniper_complexity.specs.Complexities.{nothing, plus, capped, capped_complexity}
+use Rattle.juniper_outlines.specs.Complexities.{nothing, plus, capped, capped_complexity}
 use Rattle.juniper_complexity.specs.Parts.{Reference, directives_complexity, field_complexity, spreads_of}
 use Rattle.juniper_complexity.specs.Parts.{spreads_of_optional, spreads_of_all}
 use Rattle.juniper_complexity.specs.Gathered.{seen_spread, capped_reference, Gathers, OpensField, OpensSpread, Begins}
 use Rattle.juniper_complexity.specs.Gathered.{Keeps, GathersSelection, gathered, counted_directives, KeepsDirectives}
 use Rattle.juniper_complexity.specs.Gathered.{GathersSet, GathersOptionalSet}
 use Rattle.juniper_complexity.specs.device.BySpreads.{own_of, own_of_optional, own_of_all}
-use Rattle.juniper_complexity.specs.device.Sums.{at_level, plus_capped}
-use Rattle.juniper_complexity.specs.declared.complexity.Complexity.{Complexity}
-use Rattle.juniper_complexity.specs.declared.outline_builder.NamedSpread.{NamedSpread}
+use Rattle.juniper_outlines.specs.Sums.{at_level, plus_capped}
+use Rattle.juniper_outlines.specs.declared.complexity.Complexity.{Complexity}
+use Rattle.juniper_outlines.specs.declared.outline.NamedSpread.{NamedSpread}
 use Rattle.juniper_complexity.specs.declared.outline_builder.OutlineBuilder.{OutlineBuilder}
 use Rattle.juniper_complexity.specs.declared.outline_builder.PartCount.{PartCount}
 use Rattle.juniper_complexity.proofs.Algebra.{same_complexity, plus_assoc, plus_nothing, capped_plus}

@@ -2,4 +2,4 @@
 pub use Rattle.juniper_complexity.proofs.OutlineBuilders.{kept_each, kept_optional, kept_directives, directives_counted}
 pub use Rattle.juniper_complexity.proofs.OutlineBuilders.{gathers_optional_set, gathers_set, gathers_field}
 pub use Rattle.juniper_complexity.proofs.OutlineBuilders.{gathers_inline, gathers_spread, gathers_definition}
-pub use Rattle.juniper_complexity.proofs.OwnComplexities.{one_own_more}
+pub use Rattle.juniper_complexity.proofs.OutlinedOperations.{own_mean}

@@ -1,5 +1,5 @@
 -- Outlines that were gathered, with the definitions that their spreads name.
-use Rattle.std.proofs.Common.{◌≡◌, ◌+◌, ℕ, List, [], ◌∷◌, map, Option, Some, None, Bool, cond}
+use Rattle.std.proofs.Common.{◌≡◌, ◌+◌, ℕ, List, [], ◌∷◌, ◌++◌, map, Option, Some, None, Bool, cond}
 use Rattle.std.proofs.Common.{refl, ap, ap₂, ◌∙◌}
 use Rattle.std.specs.Borrow.{Bor}
 use Rattle.std.specs.List.{position_from}
@@ -13,11 +13,11 @@ use Rattle.juniper_complexity.specs.Gathered.{seen_spread, capped_reference, fra
 use Rattle.juniper_complexity.specs.Parts.{Reference, is_fragment_named, is_operation, fragment_at}
 use Rattle.juniper_complexity.specs.Parts.{spreads_of_definition}
 use Rattle.juniper_complexity.specs.device.Outlines.{coded, IsOutline, AreOutlines}
-use Rattle.juniper_complexity.specs.device.Resolved.{is_name, is_named, place_of, resolved, outline_of}
-use Rattle.juniper_complexity.specs.device.Resolved.{outlines_of}
-use Rattle.juniper_complexity.specs.device.Walk.{Spread}
-use Rattle.juniper_complexity.specs.declared.outline_builder.DefinitionOutline.{DefinitionOutline}
-use Rattle.juniper_complexity.specs.declared.outline_builder.NamedSpread.{NamedSpread}
+use Rattle.juniper_outlines.specs.Definitions.{is_name, is_named, place_of, resolved, outline_of}
+use Rattle.juniper_outlines.specs.Definitions.{outlines_of}
+use Rattle.juniper_outlines.specs.Outlines.{Spread}
+use Rattle.juniper_outlines.specs.declared.outline.DefinitionOutline.{DefinitionOutline}
+use Rattle.juniper_outlines.specs.declared.outline.NamedSpread.{NamedSpread}
 
 -- ---- names
 
@@ -91,3 +91,10 @@ module _ (place real : Text → Option ℕ) (same : (name : Text) → place name
 pub are_outlines : (os : List DefinitionOutline) (ds : List (Definition Content)) → AreGathered os ds
     → AreOutlines (fragment_at ds) ds (outlines_of os)
 are_outlines os ds g = each_is (place_of os) (fragment_at ds) (λ name. same_place name 0 os ds g) os ds g
+
+pub gathered_more : (os : List DefinitionOutline) (ds : List (Definition Content)) (o : DefinitionOutline)
+    (d : Definition Content) → AreGathered os ds → IsGathered o d → AreGathered (os ++ o ∷ []) (ds ++ d ∷ [])
+gathered_more [] [] o d h k = (k, tt)
+gathered_more [] (e ∷ ds) o d h k = absurd h
+gathered_more (p ∷ os) [] o d h k = absurd h
+gathered_more (p ∷ os) (e ∷ ds) o d h k = (h.0, gathered_more os ds o d h.1 k)

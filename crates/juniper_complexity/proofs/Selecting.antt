@@ -1,19 +1,18 @@
 -- What selections in a row count and spread.
 use Rattle.std.proofs.Common.{◌≡◌, ◌<◌, ◌+◌, ℕ, List, [], ◌∷◌, ◌++◌, length, map, take, get_or, ap, sym, ◌∙◌}
-use Rattle.std.proofs.Common.{append_assoc}
-use Rattle.std.proofs.Common.{append-nil, add-one, Option, Some, None}
-use Rattle.std.proofs.Math.Seq.{take-suc}
+use Rattle.std.proofs.Common.{append_assoc, append-nil, Option, Some, None}
 use Rattle.juniper.specs.declared.tree.ast.Selection.{Selection}
 use Rattle.std.specs.Global.{Vec}
 use Rattle.juniper.specs.View.{view_selection, view_selections, view_set}
 use Rattle.juniper_values.specs.Scalar.{Content}
-use Rattle.juniper_complexity.specs.Complexities.{plus, capped_complexity}
+use Rattle.juniper_outlines.specs.Complexities.{plus, capped_complexity}
 use Rattle.juniper_complexity.specs.Gathered.{Gathers, GathersSelection, seen_spread, capped_reference}
 use Rattle.juniper_complexity.specs.Parts.{Reference, spreads_of, spreads_of_optional, spreads_of_all}
 use Rattle.juniper_complexity.specs.device.BySpreads.{own_of, own_of_optional, own_of_all}
-use Rattle.juniper_complexity.specs.declared.complexity.Complexity.{Complexity}
+use Rattle.juniper_outlines.specs.declared.complexity.Complexity.{Complexity}
 use Rattle.juniper_complexity.specs.declared.outline_builder.OutlineBuilder.{OutlineBuilder}
 use Rattle.juniper_complexity.proofs.Algebra.{plus_assoc, plus_nothing, nothing_plus}
+use Rattle.juniper_outlines.proofs.Public.{take_next}
 use Rattle.juniper_complexity.proofs.OutlineBuilders.{gathers_none, gathers_both}
 
 gathers_same : (old new : OutlineBuilder) (own own_too : ℕ → Complexity) (spreads spreads_too : ℕ → List Reference)
@@ -77,8 +76,7 @@ module _ {S : Type 0} (content : S → Content) where
       → i < length xs → x ≡ get_or xs i x → GathersFirst old now xs i
       → GathersSelection now new tt (view_selection content x) → GathersFirst old new xs (i + 1)
   one_more old now new xs i x lt r first gathers =
-      let longer : take (i + 1) xs ≡ take i xs ++ x ∷ [] =
-      ap (λ k. take k xs) (add-one i) ∙ (take-suc xs i x lt ∙ ap (λ (y : Selection S). take i xs ++ y ∷ []) (sym r)) in
+      let longer = take_next xs i x lt r in
       gathers_same old new
       (λ l. plus (own_of_all l (view_selections content (take i xs))) (own_of l (view_selection content x)))
       (λ l. own_of_all l (view_selections content (take (i + 1) xs)))

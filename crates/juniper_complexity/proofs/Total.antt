@@ -6,16 +6,17 @@ use Rattle.std.proofs.lemmas.Bool.{cases_eq, ne_eqb}
 use Rattle.std.proofs.lemmas.Map.Steps.{length-le_from_distinct_below}
 use Rattle.std.proofs.lemmas.Option.{slice_get_cases, slice_get_within}
 use Rattle.graphql_grammar.specs.Tree.{Definition}
-use Rattle.juniper_complexity.specs.Complexities.{plus}
-use Rattle.juniper_complexity.specs.device.Sums.{at_level}
+use Rattle.juniper_outlines.specs.Complexities.{plus}
+use Rattle.juniper_outlines.specs.Sums.{at_level}
 use Rattle.juniper_complexity.specs.device.BySpreads.{own_of_definition, HasBySpreads, has_by_spreads, SpreadsAdd}
 use Rattle.juniper_complexity.specs.device.BySpreads.{none_adds, first_adds}
 use Rattle.juniper_complexity.specs.Expansion.{DefinitionHas}
-use Rattle.juniper_complexity.specs.Faults.{IsAmong, SpreadFault, OfCycle, OfUnknown, CannotExpand, of_none, of_outer}
+use Rattle.juniper_outlines.specs.Outlines.{IsAmong}
+use Rattle.juniper_complexity.specs.Faults.{SpreadFault, OfCycle, OfUnknown, CannotExpand, of_none, of_outer}
 use Rattle.juniper_complexity.specs.Faults.{in_fragment, in_others}
 use Rattle.juniper_complexity.specs.Parts.{Reference, spreads_of_definition, is_fragment_named, fragment_at}
-use Rattle.juniper_complexity.specs.declared.complexity.Complexity.{Complexity}
-use Rattle.juniper_complexity.proofs.Bridge.{position_below}
+use Rattle.juniper_outlines.specs.declared.complexity.Complexity.{Complexity}
+use Rattle.juniper_outlines.proofs.Public.{position_below}
 use Rattle.juniper_complexity.proofs.Expanding.{expands}
 
 -- ---- what stands inside

@@ -2,14 +2,14 @@
 use Rattle.std.proofs.Common.{◌≡◌, ◌<◌, ◌+◌, ℕ, suc, List, [], ◌∷◌, Some, refl, ap, sym, subst, ◌∙◌, arith, inl, inr}
 use Rattle.std.specs.List.{slice_get}
 use Rattle.graphql_grammar.specs.Tree.{Definition}
-use Rattle.juniper_complexity.specs.Complexities.{plus}
-use Rattle.juniper_complexity.specs.device.Sums.{at_level}
-use Rattle.juniper_complexity.specs.Faults.{IsAmong}
+use Rattle.juniper_outlines.specs.Complexities.{plus}
+use Rattle.juniper_outlines.specs.Sums.{at_level}
+use Rattle.juniper_outlines.specs.Outlines.{IsAmong}
 use Rattle.juniper_complexity.specs.Parts.{Reference, spreads_of_definition, fragment_at}
 use Rattle.juniper_complexity.specs.device.BySpreads.{own_of_definition, HasBySpreads, has_by_spreads, SpreadsAdd}
 use Rattle.juniper_complexity.specs.device.BySpreads.{none_adds, first_adds}
 use Rattle.juniper_complexity.specs.Faults.{SpreadFault, CannotExpand, of_none, of_outer, in_fragment, in_others}
-use Rattle.juniper_complexity.specs.declared.complexity.Complexity.{Complexity}
+use Rattle.juniper_outlines.specs.declared.complexity.Complexity.{Complexity}
 
 module _ {C : Type 0} (ds : List (Definition C)) where
   -- how many fragments are expanded at most in one another, and more

@@ -7,9 +7,9 @@ use Rattle.graphql_grammar.specs.Tree as tree
 use Rattle.graphql_grammar.specs.Tree.{Arguments, Variables, Directives, Selection, Selections, no_selections}
 use Rattle.graphql_grammar.specs.Tree.{selection, absent, present, Definition}
 use Rattle.graphql_grammar.specs.declared.operation.OperationType.{OperationType}
-use Rattle.juniper_complexity.specs.Complexities.{nothing, plus, in_a_field}
+use Rattle.juniper_outlines.specs.Complexities.{nothing, plus, in_a_field}
 use Rattle.juniper_complexity.specs.Parts.{directives_complexity, field_complexity, fragment_at}
-use Rattle.juniper_complexity.specs.declared.complexity.Complexity.{Complexity}
+use Rattle.juniper_outlines.specs.declared.complexity.Complexity.{Complexity}
 
 module _ {C : Type 0} (document : List (Definition C)) where
   mutual

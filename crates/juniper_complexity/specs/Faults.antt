@@ -1,22 +1,18 @@
 -- The complexities of a document's operations, and the first spread that can't be expanded
 -- (GraphQL specification, October 2021, sections 5.5.2.1 and 5.5.2.2).
-use Rattle.std.specs.Prelude.{◌≡◌, ◌⊎◌, ◌<◌, ℕ, suc, true, false, List, [], ◌∷◌, slice_get, Option, Some, None, Result}
+use Rattle.std.specs.Prelude.{◌≡◌, ◌<◌, ℕ, suc, true, false, List, [], ◌∷◌, slice_get, Option, Some, None, Result}
 use Rattle.std.specs.Prelude.{Ok, Err}
 use Rattle.graphql_lexical.specs.Place.{Span}
 use Rattle.graphql_grammar.specs.Tree.{Definition}
 use Rattle.juniper_tokens.specs.Spans.{view_span}
-use Rattle.juniper_complexity.specs.Complexities.{capped_complexity}
+use Rattle.juniper_outlines.specs.Complexities.{capped_complexity}
+use Rattle.juniper_outlines.specs.Outlines.{IsAmong}
 use Rattle.juniper_complexity.specs.Parts.{Reference, spreads_of_definition, is_operation, fragment_at}
 use Rattle.juniper_complexity.specs.Expansion.{DefinitionHas}
-use Rattle.juniper_complexity.specs.declared.complexity.Complexity.{Complexity}
-use Rattle.juniper_complexity.specs.declared.complexity.ComplexityFailure.{ComplexityFailure}
-use Rattle.juniper_complexity.specs.declared.complexity.ComplexityFailure.TheVariants as failure
-use Rattle.juniper_complexity.specs.declared.operations.OperationComplexity.{OperationComplexity}
-
--- x is one of them
-abbrev pub IsAmong : ℕ → List ℕ → Type 0
-IsAmong x [] = ⊥
-IsAmong x (y ∷ ys) = (x ≡ y) ⊎ IsAmong x ys
+use Rattle.juniper_outlines.specs.declared.complexity.Complexity.{Complexity}
+use Rattle.juniper_outlines.specs.declared.complexity.ComplexityFailure.{ComplexityFailure}
+use Rattle.juniper_outlines.specs.declared.complexity.ComplexityFailure.TheVariants as failure
+use Rattle.juniper_outlines.specs.declared.operations.OperationComplexity.{OperationComplexity}
 
 -- what is wrong with a spread, and its span
 pub data SpreadFault : Type 0 where

@@ -1,6 +1,5 @@
 -- The outline of a definition, as it is gathered while the definition is read.
 use Rattle.std.specs.Prelude.{◌≡◌, ℕ, suc, List, [], ◌∷◌, ◌++◌, map, Option, Some, None, option_map, replicate}
-use Rattle.std.specs.Prelude.{is_none, if◌then◌else◌}
 use Rattle.std.specs.Str.{chars}
 use Rattle.graphql_grammar.specs.Tokens.{Text, Word}
 use Rattle.graphql_grammar.specs.Tree as tree
@@ -10,15 +9,14 @@ use Rattle.juniper.specs.Building.{an_object_field, some_arguments, an_argument,
 use Rattle.juniper.specs.Building.{an_inline_fragment, some_variables, a_variable, an_operation, a_fragment}
 use Rattle.juniper_tokens.specs.Spans.{view_span}
 use Rattle.juniper_values.specs.Scalar.{Content}
-use Rattle.juniper_complexity.specs.Complexities.{nothing, plus, capped, capped_complexity}
+use Rattle.juniper_outlines.specs.Complexities.{nothing, plus, capped, capped_complexity}
+use Rattle.juniper_outlines.specs.Sums.{at_level}
+use Rattle.juniper_outlines.specs.declared.complexity.Complexity.{Complexity}
+use Rattle.juniper_outlines.specs.declared.outline.DefinitionOutline.{DefinitionOutline}
+use Rattle.juniper_outlines.specs.declared.outline.NamedSpread.{NamedSpread}
 use Rattle.juniper_complexity.specs.Parts.{Reference, field_complexity, spreads_of, spreads_of_definition}
 use Rattle.juniper_complexity.specs.device.BySpreads.{own_of, own_of_definition}
-use Rattle.juniper_complexity.specs.device.Sums.{at_level}
-use Rattle.juniper_complexity.specs.declared.complexity.Complexity.{Complexity}
-use Rattle.juniper_complexity.specs.declared.operations.OperationComplexity.{OperationComplexity}
-use Rattle.juniper_complexity.specs.declared.outline_builder.DefinitionOutline.{DefinitionOutline}
 use Rattle.juniper_complexity.specs.declared.outline_builder.DefinitionOutlines.{DefinitionOutlines}
-use Rattle.juniper_complexity.specs.declared.outline_builder.NamedSpread.{NamedSpread}
 use Rattle.juniper_complexity.specs.declared.outline_builder.OutlineBuilder.{OutlineBuilder}
 use Rattle.juniper_complexity.specs.declared.outline_builder.PartCount.{PartCount}
 
@@ -49,19 +47,6 @@ AreGathered [] [] = Unit {0}
 AreGathered [] (d ∷ ds) = ⊥
 AreGathered (o ∷ os) [] = ⊥
 AreGathered (o ∷ os) (d ∷ ds) = IsGathered o d × AreGathered os ds
-
--- an operation's complexity with no spread expanded; a fragment has none of its own
-abbrev pub own_complexity : DefinitionOutline → Option Complexity
-own_complexity o = if is_none o.fragment then Some o.own else None
-
-abbrev pub one_complexity : ℕ → Option Complexity → List OperationComplexity
-one_complexity i None = []
-one_complexity i (Some c) = record { definition = i; complexity = c } ∷ []
-
--- those of the operations among these definitions, the first of which has this index
-abbrev pub own_complexities : ℕ → List DefinitionOutline → List OperationComplexity
-own_complexities i [] = []
-own_complexities i (o ∷ os) = one_complexity i (own_complexity o) ++ own_complexities (suc i) os
 
 abbrev pub outlines_in : DefinitionOutlines → List DefinitionOutline
 outlines_in definitions = definitions.items.items

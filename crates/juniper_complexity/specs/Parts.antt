@@ -8,7 +8,7 @@ use Rattle.graphql_grammar.specs.Tree as tree
 use Rattle.graphql_grammar.specs.Tree.{Directives, Selection, Selections, no_selections, selection, OptionalSelections}
 use Rattle.graphql_grammar.specs.Tree.{absent, present, Definition}
 use Rattle.juniper_values.specs.Text.{same_text}
-use Rattle.juniper_complexity.specs.declared.complexity.Complexity.{Complexity}
+use Rattle.juniper_outlines.specs.declared.complexity.Complexity.{Complexity}
 
 -- ---- counts
 

@@ -4,7 +4,7 @@ ghost use Rattle.graphql_grammar.specs.Tree.{Definition};
 ghost use Rattle.juniper_complexity.specs.Expansion.{DefinitionHas};
 ghost use Rattle.juniper_complexity.specs.Faults.{CannotExpand, SpreadFault};
 ghost use Rattle.juniper_complexity.specs.Parts.{spreads_of_definition};
-ghost use Rattle.juniper_complexity.specs.declared.complexity.Complexity.{Complexity};
+ghost use Rattle.juniper_outlines.specs.declared.complexity.Complexity.{Complexity};
 
 /// A definition of a document has at most one complexity.
 pub fn one_complexity<C>()

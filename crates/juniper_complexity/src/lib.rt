@@ -2,17 +2,15 @@
 //! every fragment expanded (GraphQL specification, October 2021, section 2.8).
 #![tactic(auto)]
 
-mod complexity;
 pub mod laws;
 mod names;
 mod operations;
 mod outline_builder;
 mod tree_outlines;
-mod walk;
 
-pub use complexity::{Complexity, ComplexityFailure};
-pub use names::fragment_names;
-pub use operations::{
-    OperationComplexity, gathered_complexities, operation_complexities, spread_nothing,
+pub use juniper_outlines::{
+    Complexity, ComplexityFailure, DefinitionOutline, OperationComplexity, have_no_spreads,
 };
-pub use outline_builder::{DefinitionOutline, DefinitionOutlines, OutlineBuilder, PartCount};
+pub use names::fragment_names;
+pub use operations::{gathered_complexities, operation_complexities};
+pub use outline_builder::{DefinitionOutlines, OutlineBuilder, PartCount};

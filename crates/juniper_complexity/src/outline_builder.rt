@@ -1,13 +1,13 @@
 //! The outlines of a document's definitions, gathered while it is parsed.
 ghost use Rattle.std.specs.Prelude.{◌≡◌, ◌++◌, ◌∷◌, [], List, OnOk, option_map};
 ghost use Rattle.juniper.specs.View.{view_word};
-ghost use Rattle.juniper_complexity.specs.Complexities.{capped_complexity};
-ghost use Rattle.juniper_complexity.specs.device.Sums.{plus_capped};
-ghost use Rattle.juniper_complexity.specs.Gathered.{Begins, OpensField, OpensSpread, counted_directives, outlines_in, own_complexity};
-ghost use Rattle.juniper_complexity.specs.declared.outline_builder.NamedSpread.{NamedSpread as Spread};
+ghost use Rattle.juniper_outlines.specs.Complexities.{capped_complexity};
+ghost use Rattle.juniper_outlines.specs.Sums.{plus_capped};
+ghost use Rattle.juniper_outlines.specs.declared.outline.NamedSpread.{NamedSpread as Spread};
+ghost use Rattle.juniper_complexity.specs.Gathered.{Begins, OpensField, OpensSpread, counted_directives, outlines_in};
 
-use crate::complexity::Complexity;
 use juniper::{Gather, Span, Spanning};
+use juniper_outlines::{Complexity, DefinitionOutline, NamedSpread};
 use std::alloc::{AllocError, Global};
 use std::mem;
 
@@ -35,39 +35,6 @@ impl Gather<()> for PartCount {
                 Ok(())
             }
             None => Err(AllocError),
-        }
-    }
-}
-
-/// A spread in a definition.
-#[derive(Clone, Copy)]
-pub(crate) struct NamedSpread<'a> {
-    pub name: &'a str,
-    /// The number of fields around it.
-    pub fields_around: u64,
-    pub span: Span,
-}
-
-/// A definition of a document with its numbers and its spreads, none of them expanded.
-#[derive(Drop)]
-pub struct DefinitionOutline<'a> {
-    /// The name of a fragment; None of an operation.
-    pub(crate) fragment: Option<&'a str>,
-    pub(crate) own: Complexity,
-    pub(crate) spreads: Vec<NamedSpread<'a>>,
-    /// A number for the caller to keep.
-    pub mark: usize,
-}
-
-impl DefinitionOutline<'_> {
-    /// The complexity of an operation with no spread expanded, or None of a fragment.
-    pub fn own_complexity(&self) -> Option<Complexity>
-        ensures { result ≡ own_complexity self.now }
-    {
-        if self.fragment.is_none() {
-            Some(self.own)
-        } else {
-            None
         }
     }
 }

@@ -6,11 +6,12 @@ ghost use Rattle.juniper_complexity.specs.Parts.{directives_complexity, spreads_
 ghost use Rattle.juniper_complexity.specs.device.BySpreads.{own_of_all};
 ghost use Rattle.juniper_complexity.specs.device.Outlines.{view_spread};
 
-use crate::outline_builder::{DefinitionOutline, OutlineBuilder, PartCount};
+use crate::outline_builder::{OutlineBuilder, PartCount};
 use juniper::laws::selections_are_seen;
 use juniper::{
     Definition, Directive, Field, FragmentSpread, InlineFragment, ScalarValue, Selection, Spanning,
 };
+use juniper_outlines::DefinitionOutline;
 use std::alloc::{AllocError, Global};
 
 // The number of directives.

@@ -5,7 +5,7 @@ use Rattle.graphql_grammar.specs.Tree.{Selection, Selections, OptionalSelections
 use Rattle.graphql_nodes.specs.Nodes.{each, definition_nodes}
 use Rattle.juniper.specs.Building.{BuildsEach, BuildsList, BuildsOptional, BuildsOptionalSet, BuildsSet}
 use Rattle.juniper_complexity.specs.Gathered.{AreGathered}
-use Rattle.juniper_complexity.specs.declared.outline_builder.DefinitionOutline.{DefinitionOutline}
+use Rattle.juniper_outlines.specs.declared.outline.DefinitionOutline.{DefinitionOutline}
 use Rattle.juniper_complexity.specs.declared.outline_builder.OutlineBuilder.{OutlineBuilder}
 use Rattle.juniper_values.specs.Scalar.{Content}
 use Rattle.juniper_flat.specs.Both.{AddsDefinition, AreMarked}

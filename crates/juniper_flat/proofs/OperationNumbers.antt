@@ -6,8 +6,8 @@ use Rattle.graphql_grammar.specs.Tree as tree
 use Rattle.graphql_grammar.specs.Tree.{Definition}
 use Rattle.graphql_nodes.specs.Nodes.{each, definition_nodes, document_nodes}
 use Rattle.juniper_complexity.specs.Faults.{OperationsHave, no_definition, fragment_first, operation_first}
-use Rattle.juniper_complexity.specs.declared.outline_builder.DefinitionOutline.{DefinitionOutline}
-use Rattle.juniper_complexity.specs.declared.operations.OperationComplexity.{OperationComplexity}
+use Rattle.juniper_outlines.specs.declared.outline.DefinitionOutline.{DefinitionOutline}
+use Rattle.juniper_outlines.specs.declared.operations.OperationComplexity.{OperationComplexity}
 use Rattle.juniper_values.specs.Scalar.{Content}
 use Rattle.juniper_flat.specs.Both.{AreMarked}
 

@@ -10,7 +10,7 @@ use Rattle.graphql_nodes.specs.Nodes.{definition_nodes, document_nodes}
 use Rattle.juniper.specs.Building.{BuildsList, BuildsOptional, BuildsOptionalSet, BuildsSet, Opened}
 use Rattle.juniper_complexity.specs.Gathered as outlines
 use Rattle.juniper_complexity.specs.Gathered.{GathersSelection, IsGathered, AreGathered, gathered}
-use Rattle.juniper_complexity.specs.declared.outline_builder.DefinitionOutline.{DefinitionOutline}
+use Rattle.juniper_outlines.specs.declared.outline.DefinitionOutline.{DefinitionOutline}
 use Rattle.juniper_complexity.specs.declared.outline_builder.PartCount.{PartCount}
 use Rattle.juniper_values.specs.Scalar.{Content}
 use Rattle.juniper_flat.specs.Builders as nodes

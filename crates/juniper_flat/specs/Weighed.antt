@@ -4,7 +4,7 @@ use Rattle.graphql_lexical.specs.Place.{Span}
 use Rattle.graphql_grammar.specs.Tree.{Definition}
 use Rattle.graphql_nodes.specs.Nodes.{document_nodes}
 use Rattle.juniper_complexity.specs.Faults.{OperationsHave, FirstFault, OfUnknown, OfCycle}
-use Rattle.juniper_complexity.specs.declared.operations.OperationComplexity.{OperationComplexity}
+use Rattle.juniper_outlines.specs.declared.operations.OperationComplexity.{OperationComplexity}
 use Rattle.juniper_values.specs.Scalar.{Content}
 use Rattle.juniper_flat.specs.Answers.{HasDocument, Fills, ReturnsParsed, nodes_of, texts_of}
 use Rattle.juniper_flat.specs.Faults.{unknown_fault, cycle_fault}

@@ -3,7 +3,7 @@ ghost use Rattle.std.specs.Prelude.{◌≡◌, ◌<◌, ◌^◌, List, length, m
 ghost use Rattle.graphql_grammar.specs.Tree.{Definition};
 ghost use Rattle.graphql_nodes.specs.Nodes.{document_nodes};
 ghost use Rattle.juniper_complexity.specs.Faults.{OperationsHave};
-ghost use Rattle.juniper_complexity.specs.Gathered.{own_complexities};
+ghost use Rattle.juniper_outlines.specs.Definitions.{own_complexities};
 ghost use Rattle.juniper_values.specs.Scalar.{Content};
 ghost use Rattle.juniper_flat.specs.Both.{AreMarked};
 ghost use Rattle.juniper_flat.specs.Builders.{with_written};

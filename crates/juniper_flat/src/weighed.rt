@@ -27,7 +27,7 @@ use crate::source::{Unread, text_of};
 use juniper::{LimitFailure, Limits as Within, ParseFailure, build_document_source};
 use juniper_complexity::{
     ComplexityFailure, DefinitionOutline, DefinitionOutlines, OutlineBuilder,
-    gathered_complexities, spread_nothing,
+    gathered_complexities, have_no_spreads,
 };
 use std::alloc::Global;
 use std::mem;
@@ -167,7 +167,7 @@ fn weigh(
 ) -> Result<Weighed, Unread>
     ensures { (text : List ℕ) (limits : Bounds) (tree : List (Definition Content)) (old_nodes new_nodes : List Written) (old_texts new_texts : List ℕ) → length text < 2 ^ 32 → IsTableOf (chars text) table.now → HasNodes text limits tree old_nodes new_nodes old_texts new_texts lengths → AreGathered definitions.now tree → AreMarked 0 definitions.now tree → ReturnsWeighed text limits old_nodes new_nodes old_texts new_texts complexities.old complexities.new result }
 {
-    if spread_nothing(definitions) {
+    if have_no_spreads(definitions) {
         let count = write_own_numbers(definitions, complexities);
         return Ok(Weighed::Tree(lengths, count));
     }

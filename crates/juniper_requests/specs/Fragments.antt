@@ -6,7 +6,7 @@ use Rattle.juniper.specs.View.{view_definition}
 use Rattle.juniper.specs.declared.tree.ast.Definition.TheVariants as definition
 use Rattle.juniper.specs.declared.tree.ast.Fragment.{Fragment}
 use Rattle.juniper_complexity.specs.Parts.{fragment_at}
-use Rattle.juniper_complexity.specs.Names.{Knows}
+use Rattle.juniper_outlines.specs.Names.{Knows}
 use Rattle.juniper_requests.specs.declared.fragments.Fragments.{Fragments}
 
 module _ {S C : Type 0} (content : S → C) where

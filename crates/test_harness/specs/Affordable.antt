@@ -8,7 +8,7 @@ use Rattle.juniper.specs.Within.{IsWithin}
 use Rattle.juniper.specs.Limited.{HasFewTokens, FailsLimited}
 use Rattle.juniper.specs.declared.parser.document.limited.Limits.{Limits}
 use Rattle.juniper_complexity.specs.Faults.{OperationsHave, SpreadFault, FirstFault, view_failure}
-use Rattle.juniper_complexity.specs.declared.operations.OperationComplexity.{OperationComplexity}
+use Rattle.juniper_outlines.specs.declared.operations.OperationComplexity.{OperationComplexity}
 use Rattle.test_harness.specs.declared.guide.limiter.CostFailure.{CostFailure}
 use Rattle.test_harness.specs.declared.guide.limiter.CostFailure.TheVariants as failure
 

@@ -3,11 +3,11 @@ use Rattle.std.specs.Prelude.{◌≡◌, ℕ, suc, List, [], ◌∷◌, slice_ge
 use Rattle.graphql_grammar.specs.Tree as tree
 use Rattle.graphql_grammar.specs.Tree.{Selection, Selections, no_selections, selection, OptionalSelections, absent}
 use Rattle.graphql_grammar.specs.Tree.{present, Definition}
-use Rattle.juniper_complexity.specs.Complexities.{nothing, plus}
-use Rattle.juniper_complexity.specs.device.Sums.{at_level}
+use Rattle.juniper_outlines.specs.Complexities.{nothing, plus}
+use Rattle.juniper_outlines.specs.Sums.{at_level}
 use Rattle.juniper_complexity.specs.Parts.{Reference, directives_complexity, field_complexity, spreads_of_definition}
 use Rattle.juniper_complexity.specs.Parts.{fragment_at}
-use Rattle.juniper_complexity.specs.declared.complexity.Complexity.{Complexity}
+use Rattle.juniper_outlines.specs.declared.complexity.Complexity.{Complexity}
 
 module _ {C : Type 0} where
   -- of what is inside so many fields, its spreads not expanded

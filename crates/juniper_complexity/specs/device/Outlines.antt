@@ -7,10 +7,10 @@ use Rattle.juniper_tokens.specs.Spans.{view_span}
 use Rattle.juniper_tokens.specs.declared.span.Spanning.{Spanning}
 use Rattle.juniper.specs.View.{view_word, view_directives}
 use Rattle.juniper.specs.declared.tree.ast.FragmentSpread.{FragmentSpread}
-use Rattle.juniper_complexity.specs.Complexities.{capped, capped_complexity}
+use Rattle.juniper_outlines.specs.Complexities.{capped, capped_complexity}
 use Rattle.juniper_complexity.specs.Parts.{Reference, spreads_of_definition, is_operation}
 use Rattle.juniper_complexity.specs.device.BySpreads.{own_of_definition}
-use Rattle.juniper_complexity.specs.device.Walk.{Outline, Spread}
+use Rattle.juniper_outlines.specs.Outlines.{Outline, Spread}
 
 -- the spread of the code that is this one
 abbrev pub coded : (Text → Option ℕ) → Reference → Spread

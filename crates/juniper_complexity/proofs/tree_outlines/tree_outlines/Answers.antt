@@ -1,8 +1,8 @@
-use Rattle.std.proofs.Common.{◌≡◌, ◌+◌, ◌++◌, ◌∷◌, [], map, take, ap, sym, ◌∙◌, arith, add-one}
-use Rattle.std.proofs.Math.Seq.{take-suc}
+use Rattle.std.proofs.Common.{◌≡◌, ◌+◌, ◌++◌, ◌∷◌, [], map, take, ap, ◌∙◌, arith}
 use Rattle.std.proofs.lemmas.List.{map-append}
 use Rattle.juniper.specs.View.{view_definition}
-use Rattle.juniper_complexity.proofs.OwnComplexities.{gathered_more}
+use Rattle.juniper_outlines.proofs.Public.{take_next}
+use Rattle.juniper_complexity.proofs.ResolvedOutlines.{gathered_more}
 use Rattle.juniper_complexity.proofs.tree_outlines.tree_outlines.Goals as goal
 
 pub loop-definition-preserved : goal.loop-definition-preserved
@@ -13,9 +13,7 @@ loop-definition-preserved g c =
     let i = l.definition-index in
     let view = view_definition g.S.ParseScalarValue.content in
     let longer : map view (take (i + 1) xs) ≡ map view (take i xs) ++ view x ∷ [] =
-    ap (λ k. map view (take k xs)) (add-one i)
-    ∙ (ap (map view) (take-suc xs i x (omega arith) ∙ ap (λ y. take i xs ++ y ∷ []) (sym c.definition-item.is))
-    ∙ map-append view (take i xs) (x ∷ [])) in
+    ap (map view) (take_next xs i x (omega arith) c.definition-item.is) ∙ map-append view (take i xs) (x ∷ []) in
     rw (longer, c.in_ok-push.ensures.items)
     (gathered_more l.outlines.items (map view (take i xs)) c.in_ok-gather_definition.field-0 (view x) l.invariant
     c.in_ok-gather_definition.ensures)

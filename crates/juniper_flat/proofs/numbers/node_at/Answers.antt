@@ -1,7 +1,7 @@
 use Rattle.std.proofs.Common.{◌∙◌, ap, sym, refl, arith}
 use Rattle.std.proofs.lemmas.Option.{slice_get_read}
 use Rattle.graphql_nodes.specs.Nodes.{document_nodes}
-use Rattle.juniper_complexity.specs.declared.outline_builder.DefinitionOutline.{DefinitionOutline}
+use Rattle.juniper_outlines.specs.declared.outline.DefinitionOutline.{DefinitionOutline}
 use Rattle.juniper_flat.proofs.OperationNumbers.{as_many_marks, few_before, mark_at}
 use Rattle.juniper_flat.proofs.numbers.node_at.Goals as goal
 

@@ -3,8 +3,8 @@ use Rattle.std.proofs.Common.{arith, add-one}
 use Rattle.std.proofs.Math.Seq.{take-suc}
 use Rattle.std.proofs.lemmas.List.{map-append, length-map, length-take}
 use Rattle.std.proofs.lemmas.Option.{slice_get-get_or}
-use Rattle.juniper_complexity.specs.Complexities.{nothing}
-use Rattle.juniper_complexity.specs.declared.operations.OperationComplexity.{OperationComplexity}
+use Rattle.juniper_outlines.specs.Complexities.{nothing}
+use Rattle.juniper_outlines.specs.declared.operations.OperationComplexity.{OperationComplexity}
 use Rattle.juniper_flat.specs.Builders.{with_written}
 use Rattle.juniper_flat.specs.Weighed.{numbers_of}
 use Rattle.juniper_flat.specs.declared.numbers.Numbers.{Numbers}

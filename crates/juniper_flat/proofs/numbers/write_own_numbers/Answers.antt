@@ -1,9 +1,9 @@
 use Rattle.std.proofs.Common.{◌≡◌, ◌+◌, ◌++◌, ◌∷◌, [], ◌∙◌, ℕ, List, length, map, take, set, ap, ap₂, sym, arith}
 use Rattle.std.proofs.Common.{length-append, append-nil}
 use Rattle.std.proofs.lemmas.List.{map-append, length-map}
-use Rattle.juniper_complexity.specs.Gathered.{own_complexities}
-use Rattle.juniper_complexity.specs.declared.operations.OperationComplexity.{OperationComplexity}
-use Rattle.juniper_complexity.proofs.Public.{one_own_more}
+use Rattle.juniper_outlines.specs.Definitions.{own_complexities}
+use Rattle.juniper_outlines.specs.declared.operations.OperationComplexity.{OperationComplexity}
+use Rattle.juniper_outlines.proofs.Public.{one_own_more}
 use Rattle.juniper_flat.specs.Builders.{with_written}
 use Rattle.juniper_flat.specs.Weighed.{numbers_of}
 use Rattle.juniper_flat.specs.declared.numbers.Numbers.{Numbers}

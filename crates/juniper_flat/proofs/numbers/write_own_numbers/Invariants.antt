@@ -2,7 +2,7 @@
 use Rattle.std.proofs.Common.{◌≡◌, ◌^◌, ◌<◌, ◌≤◌, List, length, map, take}
 use Rattle.graphql_grammar.specs.Tree.{Definition}
 use Rattle.graphql_nodes.specs.Nodes.{document_nodes}
-use Rattle.juniper_complexity.specs.Gathered.{own_complexities}
+use Rattle.juniper_outlines.specs.Definitions.{own_complexities}
 use Rattle.juniper_values.specs.Scalar.{Content}
 use Rattle.juniper_flat.specs.Both.{AreMarked}
 use Rattle.juniper_flat.specs.Builders.{with_written}

@@ -4,7 +4,8 @@ use Rattle.std.specs.Str.{chars}
 use Rattle.graphql_grammar.specs.Tree.{Definition}
 use Rattle.graphql_nodes.specs.Nodes.{document_nodes}
 use Rattle.juniper_complexity.specs.Faults.{OfUnknown, OfCycle, view_failure}
-use Rattle.juniper_complexity.specs.Gathered.{own_complexities}
+use Rattle.juniper_outlines.specs.Definitions.{own_complexities}
+use Rattle.juniper_complexity.proofs.Public.{own_mean}
 use Rattle.juniper_tokens.specs.Spans.{view_span}
 use Rattle.juniper_values.specs.Scalar.{Content}
 use Rattle.juniper_flat.specs.Answers.{HasDocument, Fills}
@@ -22,10 +23,11 @@ few_nodes text limits tree short document =
     let within = within_source text limits tree document in
     omega (arith, within.0, written-length (chars text) 0 (document_nodes tree), short)
 
-pub returns-then-spread_nothing : goal.returns-then-spread_nothing
-returns-then-spread_nothing c text limits tree on nn ot nt short table nodes gathered marks =
+pub returns-then-have_no_spreads : goal.returns-then-have_no_spreads
+returns-then-have_no_spreads c text limits tree on nn ot nt short table nodes gathered marks =
     let own = own_complexities 0 c.args.definitions.now in
-    let have = c.spread_nothing.ensures.yes c.if-spread_nothing.true tree gathered in
+    let have = own_mean c.args.definitions.now tree gathered
+    (c.have_no_spreads.ensures.yes c.if-have_no_spreads.true) in
     let few = few_nodes text limits tree short nodes.document in
     let numbers = map (numbers_of tree) own in (
       short,

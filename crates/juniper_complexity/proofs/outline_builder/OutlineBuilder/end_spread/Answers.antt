@@ -1,6 +1,6 @@
 use Rattle.std.proofs.Common.{◌≡◌, ◌+◌, ◌∙◌, List, [], ◌∷◌, ◌++◌, length, get_or, set, ap, arith, length-append}
 use Rattle.std.proofs.lemmas.List.{get_or_at, set_at}
-use Rattle.juniper_complexity.specs.declared.outline_builder.NamedSpread.{NamedSpread}
+use Rattle.juniper_outlines.specs.declared.outline.NamedSpread.{NamedSpread}
 use Rattle.juniper_complexity.proofs.outline_builder.OutlineBuilder.end_spread.Goals as goal
 
 pub returns-then-last-len-clause-spreads : goal.returns-then-last-len-clause-spreads

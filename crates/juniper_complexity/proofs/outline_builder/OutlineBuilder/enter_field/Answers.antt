@@ -3,9 +3,9 @@ use Rattle.std.specs.Borrow.{Bor}
 use Rattle.std.specs.Prelude.{option_map}
 use Rattle.juniper.specs.View.{view_word}
 use Rattle.juniper_tokens.specs.declared.span.Spanning.{Spanning}
-use Rattle.juniper_complexity.specs.Complexities.{capped}
+use Rattle.juniper_outlines.specs.Complexities.{capped}
 use Rattle.juniper_complexity.specs.Parts.{alias_count}
-use Rattle.juniper_complexity.specs.declared.complexity.Complexity.{Complexity}
+use Rattle.juniper_outlines.specs.declared.complexity.Complexity.{Complexity}
 use Rattle.juniper_complexity.specs.declared.outline_builder.OutlineBuilder.{OutlineBuilder}
 use Rattle.juniper_complexity.proofs.Algebra.{same_complexity, capped_suc}
 use Rattle.juniper_complexity.proofs.EnteredFields.{entered, entered_field, no_root, root_count}

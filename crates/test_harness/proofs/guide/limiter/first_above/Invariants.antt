@@ -1,6 +1,6 @@
 -- None of the operations so far has more fields.
 use Rattle.std.proofs.Common.{◌≡◌, ◌<◌, ◌≤◌, ℕ, Some, slice_get}
-use Rattle.juniper_complexity.specs.declared.operations.OperationComplexity.{OperationComplexity}
+use Rattle.juniper_outlines.specs.declared.operations.OperationComplexity.{OperationComplexity}
 use Rattle.test_harness.proofs.guide.limiter.first_above.Given as goal
 
 abbrev pub invariant-loop-i : goal.invariant-loop-i
