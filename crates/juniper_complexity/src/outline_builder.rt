@@ -118,7 +118,9 @@ fn add_directives(own: &mut Complexity, directives: &Option<PartCount>)
 
 impl<'a> OutlineBuilder<'a> {
     /// A builder that has gathered nothing.
-    pub fn new(alloc: Global) -> Self {
+    pub fn new(alloc: Global) -> Self
+        ensures { Begins result }
+    {
         OutlineBuilder {
             alloc,
             own: Complexity::nothing(),
