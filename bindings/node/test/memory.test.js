@@ -58,22 +58,25 @@ const LIMITED = `
   }
 `;
 
-// What a source's result may be, however little memory there is.
+// What a source's result may be, however little memory there is for it. Most take 10 to 40 megabytes, so that Node itself, which
+// ends where it has none left, always has enough. Memory that was let go is given back before there is little.
 const LITTLE = `${LIMITED}
-  const source = "{a}".repeat(1 << 15);
-  const spreads = "{" + "...F ".repeat(1 << 15) + "} fragment F on T { a }";
+  const source = "{a}".repeat(1 << 17);
+  const spreads = "{" + "...F ".repeat(1 << 17) + "} fragment F on T { a }";
   const results = new Set();
-  function add(run) {
-    try { results.add(run()); } catch (error) { results.add(error.name + ": " + error.message); }
+  function add(megabytes, run) {
+    limit(2 ** 33);
     gc();
-  }
-  for (let megabytes = 60; megabytes >= 3; megabytes -= 3) {
+    gc();
     limit(megabytes << 20);
-    add(() => "nodes: " + parse(source).length);
-    add(() => parse(source + ")"));
-    add(() => "within: " + parse(spreads, { maxFields: 32768 }).operations[0].complexity.fields);
-    add(() => parse(spreads, { maxFields: 32767 }));
-    add(() => "fields: " + parse(spreads).operations[0].complexity.fields);
+    try { results.add(run()); } catch (error) { results.add(error.name + ": " + error.message); }
+  }
+  for (let megabytes = 100; megabytes >= 10; megabytes -= 10) {
+    add(megabytes, () => "nodes: " + parse(source).length);
+    add(megabytes, () => parse(source + ")"));
+    add(megabytes, () => "within: " + parse(spreads, { maxFields: 131072 }).operations[0].complexity.fields);
+    add(megabytes, () => parse(spreads, { maxFields: 131071 }));
+    add(megabytes, () => "fields: " + parse(spreads).operations[0].complexity.fields);
   }
   limit(2 ** 33);
   console.log(JSON.stringify([...results].sort()), parse("{ a }").length);
@@ -83,8 +86,8 @@ const hasLimits = process.platform === "linux" && spawnSync("prlimit", ["--versi
 
 test("a process with little memory", { skip: hasLimits ? false : "no prlimit, so memory is not limited" }, () => {
   const wanted = [
-    "Error: memory ran out", "FirthnapkinError: Too many fields in an operation without a name: 32768, with a limit of 32767. At 1:1",
-    'FirthnapkinError: Unexpected ")". At 1:98305', "fields: 32768", "nodes: 65536", "within: 32768",
+    "Error: memory ran out", "FirthnapkinError: Too many fields in an operation without a name: 131072, with a limit of 131071. At 1:1",
+    'FirthnapkinError: Unexpected ")". At 1:393217', "fields: 131072", "nodes: 262144", "within: 131072",
   ];
   assert.strictEqual(written(LITTLE, "--expose-gc").trim(), `${JSON.stringify(wanted)} 2`);
 });
