@@ -62,21 +62,25 @@ const LIMITED = `
 // ends where it has none left, always has enough. Memory that was let go is given back before there is little.
 const LITTLE = `${LIMITED}
   const source = "{a}".repeat(1 << 17);
-  const spreads = "{" + "...F ".repeat(1 << 17) + "} fragment F on T { a }";
+  const spreads = (count) => "{" + "...F ".repeat(count) + "} fragment F on T { a }";
+  const several = spreads(1 << 17);
+  const many = spreads(1 << 18);
   const results = new Set();
-  function add(megabytes, run) {
+  // What is given to it is made while there is enough.
+  function add(megabytes, run, given = () => {}) {
     limit(2 ** 33);
+    const value = given();
     gc();
     gc();
     limit(megabytes << 20);
-    try { results.add(run()); } catch (error) { results.add(error.name + ": " + error.message); }
+    try { results.add(run(value)); } catch (error) { results.add(error.name + ": " + error.message); }
   }
   for (let megabytes = 100; megabytes >= 10; megabytes -= 10) {
     add(megabytes, () => "nodes: " + parse(source).length);
     add(megabytes, () => parse(source + ")"));
-    add(megabytes, () => "within: " + parse(spreads, { maxFields: 131072 }).operations[0].complexity.fields);
-    add(megabytes, () => parse(spreads, { maxFields: 131071 }));
-    add(megabytes, () => "fields: " + parse(spreads).operations[0].complexity.fields);
+    add(megabytes, () => "within: " + parse(several, { maxFields: 131072 }).operations[0].complexity.fields);
+    add(megabytes, () => parse(several, { maxFields: 131071 }));
+    add(megabytes, (operation) => "fields: " + operation.complexity.fields, () => parse(many).operations[0]);
   }
   limit(2 ** 33);
   console.log(JSON.stringify([...results].sort()), parse("{ a }").length);
@@ -87,7 +91,7 @@ const hasLimits = process.platform === "linux" && spawnSync("prlimit", ["--versi
 test("a process with little memory", { skip: hasLimits ? false : "no prlimit, so memory is not limited" }, () => {
   const wanted = [
     "Error: memory ran out", "FirthnapkinError: Too many fields in an operation without a name: 131072, with a limit of 131071. At 1:1",
-    'FirthnapkinError: Unexpected ")". At 1:393217', "fields: 131072", "nodes: 262144", "within: 131072",
+    'FirthnapkinError: Unexpected ")". At 1:393217', "fields: 262144", "nodes: 262144", "within: 131072",
   ];
   assert.strictEqual(written(LITTLE, "--expose-gc").trim(), `${JSON.stringify(wanted)} 2`);
 });
