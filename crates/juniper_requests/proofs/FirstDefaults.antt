@@ -83,6 +83,14 @@ module _ {C : Type 0} where
         ∙ first_of (given t) (find (defines t) ds) (defines t d) d (was_defined ds d t false e)
         ∙ ap (λ o. given_or (given t) (default_in o)) (sym (find-append (defines t) ds (d ∷ [])))
 
+-- where nothing is defined, what is given is all
+pub given_alone : {C : Type 0} (given : Values C) → WithDefaults [] given given
+given_alone {C = C} given t = by_cases (given t)
+  where
+    by_cases : (g : Option (Value C)) → g ≡ given_or g None
+    by_cases (Some v) = refl
+    by_cases None = refl
+
 -- the default of a definition of the code, as the grammar sees it
 pub default_seen : {S C : Type 0} (content : S → C) (default : Option (Spanning (InputValue S)))
     → option_map (λ v. view content v.item) default ≡ option_map (λ v. v.item) (option_map (view_value content) default)

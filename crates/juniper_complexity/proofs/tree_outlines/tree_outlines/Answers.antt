@@ -1,4 +1,5 @@
 use Rattle.std.proofs.Common.{◌≡◌, ◌+◌, ◌++◌, ◌∷◌, [], map, take, ap, ◌∙◌, arith}
+use Rattle.std.proofs.lemmas.Grind.{common_steps}
 use Rattle.std.proofs.lemmas.List.{map-append}
 use Rattle.juniper.specs.View.{view_definition}
 use Rattle.juniper_outlines.proofs.Public.{take_next}
@@ -17,3 +18,6 @@ loop-definition-preserved g c =
     rw (longer, c.in_ok-push.ensures.items)
     (gathered_more l.outlines.items (map view (take i xs)) c.in_ok-gather_definition.field-0 (view x) l.invariant
     c.in_ok-gather_definition.ensures)
+
+pub returns : goal.returns
+returns g c = grind (arith, common_steps)

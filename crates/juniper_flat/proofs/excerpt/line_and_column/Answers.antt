@@ -1,6 +1,7 @@
-use Rattle.std.proofs.Common.{◌∙◌, ◌+◌, sym, ap}
+use Rattle.std.proofs.Common.{◌∙◌, ◌+◌, sym, ap, arith}
 use Rattle.std.proofs.lemmas.Iterator.{YieldsList-from_chars}
 use Rattle.std.proofs.lemmas.Iterator.Consumers.{YieldsList-end}
+use Rattle.std.proofs.lemmas.Grind.{common_steps}
 use Rattle.std.proofs.lemmas.List.{map-id}
 use Rattle.graphql_lexical.specs.Characters.{Text}
 use Rattle.graphql_lexical.specs.Place.{position_after}
@@ -19,3 +20,9 @@ returns-clause-column c =
     c.loop-c.yielded_by _ _ c.in-None.is c.next.ensures.steps in
     c.loop-c.invariant.column
     ∙ ap (λ (t : Text). (position_after t).column) (sym (map-id c.loop-c.yielded) ∙ all.0)
+
+pub loop-c-preserved-then-c-eq10 : goal.loop-c-preserved-then-c-eq10
+loop-c-preserved-then-c-eq10 c = grind (arith, common_steps)
+
+pub loop-c-preserved : goal.loop-c-preserved
+loop-c-preserved c = grind (arith, common_steps)

@@ -1,7 +1,7 @@
 use Rattle.std.proofs.Common.{◌≡◌, ℕ, [], Some, refl, subst, arith, inl, inr}
 use Rattle.std.proofs.lemmas.Bool.{cases_eq}
 use Rattle.std.proofs.lemmas.List.{nil_from_length}
-use Rattle.std.proofs.lemmas.Option.{slice_get_read, slice_get_within}
+use Rattle.std.proofs.lemmas.Option.{gets, slice_get_read, slice_get_within}
 use Rattle.std.specs.List.{slice_get}
 use Rattle.juniper_outlines.specs.declared.outline.DefinitionOutline.{DefinitionOutline}
 use Rattle.juniper_outlines.proofs.OwnComplexities.{same_fragment}
@@ -40,3 +40,6 @@ pub returns-clause-yes : goal.returns-clause-yes
 returns-clause-yes c _ j o at none =
     let inside = slice_get_within c.args.definitions.now j o at in
     c.loop-i.invariant.so_far j o at (omega (arith, inside)) none
+
+pub returns-then-not-is_empty-clause-no : goal.returns-then-not-is_empty-clause-no
+returns-then-not-is_empty-clause-no c = grind (arith, gets)

@@ -1,4 +1,5 @@
 use Rattle.std.proofs.Common.{◌++◌, ◌∷◌, [], take, ap, sym, ◌∙◌, arith, append-nil}
+use Rattle.std.proofs.lemmas.Grind.{common_steps}
 use Rattle.juniper_outlines.specs.Definitions.{own_complexities}
 use Rattle.juniper_outlines.proofs.OwnComplexities.{one_own_more}
 use Rattle.juniper_outlines.proofs.operations.own_complexities.Goals as goal
@@ -22,3 +23,6 @@ loop-i-preserved c =
           let same = rw w.in-None.is at more in
           rw w.complexities-is (l.invariant ∙ sym (same ∙ append-nil so_far))
     ]
+
+pub returns : goal.returns
+returns c = grind (arith, common_steps)

@@ -1,6 +1,6 @@
 use Rattle.std.proofs.Common.{◌≡◌, Some, refl, sym, ◌∙◌, arith}
 use Rattle.std.proofs.lemmas.List.{length-map}
-use Rattle.std.proofs.lemmas.Option.{slice_get_read}
+use Rattle.std.proofs.lemmas.Option.{gets, slice_get_read}
 use Rattle.std.specs.Str.{chars}
 use Rattle.juniper_outlines.specs.declared.walk.State.TheVariants as state
 use Rattle.juniper_outlines.specs.Definitions.{is_named, outline_of, place_of, resolved}
@@ -51,3 +51,6 @@ follow-requires-clause-next c =
 
 pub follow-requires-clause-named : goal.follow-requires-clause-named
 follow-requires-clause-named c = sym c.find_named.ensures ∙ c.in-Some.is
+
+pub returns-in_default : goal.returns-in_default
+returns-in_default c = grind (arith, gets)

@@ -1,5 +1,6 @@
 use Rattle.std.proofs.Common.{◌≡◌, ℕ, map, get_or, slice_get, Some, refl, ap, sym, subst, ◌∙◌, arith}
-use Rattle.std.proofs.lemmas.Option.{slice_get-get_or}
+use Rattle.std.proofs.lemmas.Grind.{common_steps}
+use Rattle.std.proofs.lemmas.Option.{gets, slice_get-get_or}
 use Rattle.juniper_outlines.specs.declared.outline.NamedSpread.{NamedSpread}
 use Rattle.juniper_outlines.specs.declared.walk.State.TheVariants as state
 use Rattle.juniper_outlines.specs.Definitions.{outline_of, place_of, resolved}
@@ -33,3 +34,9 @@ returns c =
     rw (c.plus.ensures, c.at_level.ensures, around, same_next, same_complexity)
     (step_spread w.next c.requires.waits.target w.complexity c.args.inner w.of w.spread w.is_next w.named
     c.requires.waits.is_done refl)
+
+pub returns-in_default : goal.returns-in_default
+returns-in_default c = grind (arith, gets)
+
+pub overflow_add-states : goal.overflow_add-states
+overflow_add-states c = grind (arith, common_steps, gets)

@@ -1,6 +1,7 @@
-use Rattle.std.proofs.Common.{◌≡◌, true, false, Some, ◌+◌, ◌++◌, ◌∷◌, [], map, take, if◌then◌else◌, ap, sym, subst, ◌∙◌}
-use Rattle.std.specs.List.{list_any}
+use Rattle.std.proofs.Common.{◌≡◌, true, false, Some, ◌+◌, ◌++◌, ◌∷◌, [], map, take, if◌then◌else◌}
+use Rattle.std.proofs.Common.{ap, sym, subst, ◌∙◌, refl}
 use Rattle.std.proofs.lemmas.List.{map-append, map_more, take_all}
+use Rattle.std.specs.List.{list_any}
 use Rattle.graphql_grammar.specs.Tokens.{Text}
 use Rattle.juniper_values.specs.Text.{same_text}
 use Rattle.juniper_values.specs.View.{values_in}
@@ -8,7 +9,7 @@ use Rattle.juniper.specs.View.{view_variable}
 use Rattle.juniper_requests.specs.Defaults.{WithDefaults, default_in, given_or}
 use Rattle.juniper_requests.specs.device.Seen.{HasSeen}
 use Rattle.juniper_requests.proofs.FirstDefaults.{names, seen_before, not_seen_before, defined_again, defined_first}
-use Rattle.juniper_requests.proofs.FirstDefaults.{default_seen}
+use Rattle.juniper_requests.proofs.FirstDefaults.{default_seen, given_alone}
 use Rattle.juniper_requests.proofs.defaults.with_defaults.Goals as goal
 
 pub loop-definition-preserved-then-not-branch : goal.loop-definition-preserved-then-not-branch
@@ -74,3 +75,10 @@ returns-clause-values g c =
     (take_all c.loop-definition.definition-index items c.loop-definition-test.false
     ∙ c.deref-definition-items.ensures.value)
     c.loop-definition.invariant.1
+
+pub loop-definition-init : goal.loop-definition-init
+loop-definition-init g c = (
+  λ name utf8. rw c.new-seen.ensures.empty refl,
+  given_alone (values_in g.S.ParseScalarValue.content c.args.variables),
+  λ t v e. e,
+)

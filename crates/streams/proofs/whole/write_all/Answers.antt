@@ -13,3 +13,18 @@ writes-preserved g c = record {
       rw take-add (rw take_rest at all);
   sound = search rules;
 }
+
+pub returns-in-Ok-eq0-clause-all : goal.returns-in-Ok-eq0-clause-all
+returns-in-Ok-eq0-clause-all g c = search rules
+
+pub returns-in-Ok-eq0-clause-failed : goal.returns-in-Ok-eq0-clause-failed
+returns-in-Ok-eq0-clause-failed g c = search rules
+
+pub returns-in-Ok-eq0-2-clause-all : goal.returns-in-Ok-eq0-2-clause-all
+returns-in-Ok-eq0-2-clause-all g c = search rules
+
+pub returns-in-Ok-eq0-2-clause-failed : goal.returns-in-Ok-eq0-2-clause-failed
+returns-in-Ok-eq0-2-clause-failed g c = search rules
+
+pub returns-clause-failed : goal.returns-clause-failed
+returns-clause-failed g c = search rules

@@ -1,4 +1,5 @@
 use Rattle.std.proofs.Common.{◌≡◌, ◌-◌, ◌<◌, length, arith}
+use Rattle.std.proofs.lemmas.Grind.{common_steps}
 use Rattle.std.proofs.lemmas.List.{length-map}
 use Rattle.juniper_nodes.specs.NodeViews.{view_node}
 use Rattle.juniper_nodes.proofs.Growth.{counted}
@@ -17,3 +18,9 @@ returns g c =
       nodes = λ before inner node e h.
           counted content xs read.result.now place _ before inner node read.ensures.value within count e h;
     }
+
+pub overflow_sub-count : goal.overflow_sub-count
+overflow_sub-count g c = grind (arith, common_steps)
+
+pub overflow_sub-count-2 : goal.overflow_sub-count-2
+overflow_sub-count-2 g c = grind (arith, common_steps)
