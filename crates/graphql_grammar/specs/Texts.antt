@@ -1,7 +1,6 @@
 -- Where a text is refused, in characters.
 use Rattle.std.specs.Prelude.{List, ◌++◌, codes}
-use Rattle.graphql_lexical.specs.Cutting.{Lexeme, Cut}
-use Rattle.graphql_lexical.specs.laws.Spacing.{up_to}
+use Rattle.graphql_lexical.specs.Cutting.{Lexeme, up_to, Cut}
 use Rattle.graphql_grammar.specs.Tokens.{Text}
 use Rattle.graphql_grammar.specs.Tree.{Scalars, Definition}
 use Rattle.graphql_grammar.specs.Grammar.{IsDocument}

@@ -3,12 +3,12 @@ use Rattle.std.proofs.Common.{codes, ◌≡◌, ℕ, ◌≤◌, inl, inr, List, 
 use Rattle.std.specs.List.{AllZip}
 use Rattle.std.proofs.lemmas.List.{take_all}
 use Rattle.graphql_lexical.specs.Place.{Place, place}
-use Rattle.graphql_lexical.specs.Cutting.{Lexeme, last_of, Cut}
+use Rattle.graphql_lexical.specs.Cutting.{Lexeme, last_of, up_to, Cut}
 use Rattle.graphql_lexical.specs.device.Indexed.{LeadsAt}
 use Rattle.graphql_lexical.specs.laws.Alike.{Alike}
 use Rattle.graphql_lexical.specs.laws.Joining.{BeginsApart, IsSeam}
 use Rattle.graphql_lexical.specs.laws.Written.{Bare, AreOf, IsCutInto}
-use Rattle.graphql_lexical.specs.laws.Spacing.{up_to, IsSpaced, GoesOn, GoesOnSpaced}
+use Rattle.graphql_lexical.specs.laws.Spacing.{IsSpaced, GoesOn, GoesOnSpaced}
 use Rattle.graphql_lexical.proofs.Slices.{place_index}
 use Rattle.graphql_lexical.proofs.Cuts.{stands_size, cut_front}
 use Rattle.graphql_lexical.proofs.Joints.{after_front, front_joins, few_tokens}

@@ -1,4 +1,5 @@
 pub mod View
+pub mod Cases
 pub mod Building
 pub mod Trees
 pub mod NamedVariables

@@ -27,7 +27,8 @@ ghost use Rattle.juniper_values.specs.declared.type_literal.TypeModifier.{TypeMo
 ghost use Rattle.juniper.specs.ReadBack.{AreWritable, IsReadAsType, IsReadBack, type_of};
 ghost use Rattle.juniper.specs.Promise.{HasTree, IsRefusal};
 ghost use Rattle.juniper.specs.laws.RefusalClauses.{IsRefusalByClauses, IsRefusalInText};
-ghost use Rattle.juniper.specs.laws.TreeLaws.{FailsAtBreak, IsRefusedAtBreak, SeesValues, SeesSelections};
+ghost use Rattle.juniper.specs.Cases.{SeesValues, SeesSelections};
+ghost use Rattle.juniper.specs.laws.TreeLaws.{FailsAtBreak, IsRefusedAtBreak};
 ghost use Rattle.juniper.specs.Scalars.{stated};
 ghost use Rattle.juniper.specs.Sources.{AreRefusedAlike};
 ghost use Rattle.juniper.specs.Within.{HasTooDeep, HasOneResult};

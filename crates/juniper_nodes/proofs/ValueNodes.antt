@@ -10,7 +10,7 @@ use Rattle.juniper_values.specs.View.{view}
 use Rattle.juniper_values.specs.declared.input_value.InputValue.{InputValue}
 use Rattle.juniper_values.specs.declared.input_value.InputValue.TheVariants as V
 use Rattle.juniper.specs.View.{text_of, view_value, view_object_field}
-use Rattle.juniper.specs.laws.TreeLaws.{SeesValues}
+use Rattle.juniper.specs.Cases.{SeesValues}
 
 -- the nodes of an object's field
 abbrev pub field_nodes : {C : Type 0} → Word × Located (Value C) → List (Node C)

@@ -17,7 +17,7 @@ use Rattle.graphql_lexical.proofs.Public.{DeeperFrom, ShallowFrom, Streams}
 use Rattle.juniper_tokens.specs.declared.check.Brackets.{Brackets}
 use Rattle.juniper_tokens.specs.declared.token_range.TokenRange.{TokenRange}
 use Rattle.juniper_tokens.specs.declared.span.Span.{Span}
-use Rattle.juniper_tokens.specs.Lexing.{LexerState, items_left}
+use Rattle.juniper_tokens.specs.Lexing.{LexerState, items_left, passed, ahead}
 use Rattle.juniper_tokens.specs.Counting.{HasFew}
 use Rattle.juniper_tokens.specs.Gathering.{HasLeft}
 use Rattle.juniper_tokens.specs.Nesting.{EndsAtNesting, IsShallow}
@@ -69,6 +69,27 @@ module _ (s t u : LexerState) (count most : ℕ) (h : Passes s t count most) (r 
     few = omega (arith, room);
     fewer = omega (arith, h.fewer, ranges_fewer t (Ok r) u step);
   }
+
+  -- with the end those are all tokens of a source
+  pub passed_all : r.kind ≡ EndOfFile
+      → HasLeft s (range_lexemes s.source (h.ranges ++ r ∷ []))
+      × (length (range_lexemes s.source (h.ranges ++ r ∷ [])) ≤ most + 1)
+  passed_all end = (
+    gathered_cut s (range_lexemes s.source (h.ranges ++ r ∷ [])) u
+        (ranges_more s h.ranges t u r h.gathered step).gathered (step.2.ends.1 end),
+    omega (
+      arith,
+      length-map (h.ranges ++ r ∷ []) (range_lexeme s.source),
+      length-append h.ranges (r ∷ []),
+      h.count_is,
+      h.few,
+    ),
+  )
+
+  pub passed_few : r.kind ≡ EndOfFile → HasFew (passed s.source s.index) (ahead s.source s.index) most
+  passed_few end =
+      let all = passed_all end in
+      cut_few most _ _ (range_lexemes s.source (h.ranges ++ r ∷ [])) all.0 (omega (arith, all.1))
 
 -- a lexer that goes on has an item left
 pub some_items : (s t : LexerState) (count most : ℕ) → Passes s t count most → count < items_left s
@@ -122,21 +143,16 @@ module _ (s t u : LexerState) (count most depth : ℕ) (brackets : Brackets)
 
   pub all_checked : r.kind ≡ EndOfFile → (lexemes : List Lexeme) × HasLeft s lexemes × (length lexemes ≤ most + 1)
       × ((new : List Lexeme) × EndsAtNesting depth lexemes brackets.deep new)
-  all_checked end = (
-    range_lexemes s.source (h.passes.ranges ++ r ∷ []),
-    gathered_cut s (range_lexemes s.source (h.passes.ranges ++ r ∷ [])) u more.gathered (step.2.ends.1 end),
-    omega (
-      arith,
-      length-map (h.passes.ranges ++ r ∷ []) (range_lexeme s.source),
-      length-append h.passes.ranges (r ∷ []),
-      h.passes.count_is,
-      h.passes.few,
-    ),
-    subst (λ (ts : List Lexeme). (new : List Lexeme) × EndsAtNesting depth ts brackets.deep new)
-        (sym (map-append (range_lexeme s.source) h.passes.ranges (r ∷ [])))
-        (ends_nested depth (range_lexemes s.source h.passes.ranges) (range_lexeme s.source r) brackets.opened
-        brackets.closed brackets.deep h.nested end),
-  )
+  all_checked end =
+      let all = passed_all s t u count most h.passes r step end in (
+        range_lexemes s.source (h.passes.ranges ++ r ∷ []),
+        all.0,
+        all.1,
+        subst (λ (ts : List Lexeme). (new : List Lexeme) × EndsAtNesting depth ts brackets.deep new)
+            (sym (map-append (range_lexeme s.source) h.passes.ranges (r ∷ [])))
+            (ends_nested depth (range_lexemes s.source h.passes.ranges) (range_lexeme s.source r) brackets.opened
+            brackets.closed brackets.deep h.nested end),
+      )
 
 -- ---- tokens are streamed
 

@@ -2,6 +2,7 @@
 use Rattle.std.proofs.Common.{◌≡◌, ℕ, ◌+◌, ◌-◌, ◌<◌, ◌≤◌, ◌^◌, Bool, true, false, List, [], ◌∷◌, ◌++◌, length, take, drop, refl, sym, ap, ap₂, subst, ◌∙◌, arith, length-drop}
 use Rattle.std.specs.Prelude.{Result, Ok, Err, Some, None, ◌↔◌}
 use Rattle.std.specs.Option.{unwrap_or}
+use Rattle.std.specs.Result.{result_ok}
 use Rattle.std.specs.List.{fold}
 use Rattle.std.proofs.lemmas.Str.{length-le-encodes, encodes-chars}
 use Rattle.std.specs.Str.{chars, IsUtf8}
@@ -28,7 +29,7 @@ use Rattle.juniper_tokens.specs.Positions.{columns_on}
 use Rattle.juniper_tokens.specs.device.Scans.{Finds}
 use Rattle.juniper_tokens.specs.Lexing.{PassesToken, LexerState, GivesItem, GivesToken}
 use Rattle.juniper_tokens.specs.device.LexingByScan.{past_ignored, IsPlaced}
-use Rattle.juniper_tokens.specs.device.Ranges.{range_of, range_slice, range_lexeme, IsRange, TakesRange, TakesItem, MayTake, GivesRange, GivesRangeItem, range_steps}
+use Rattle.juniper_tokens.specs.device.Ranges.{range_of, range_slice, range_lexeme, IsRange, TakesRange, TakesItem, MayTake, GivesRange, GivesRangeItem, range_steps, range_or_none}
 use Rattle.juniper_tokens.proofs.Offsets.{byte_at_within, byte_at_on, bytes_between, fits_from}
 use Rattle.juniper_tokens.proofs.LexingByScan.{same_end, fault_by_scan, memory_by_scan}
 use Rattle.juniper_tokens.proofs.Places.{place_on, line_end}
@@ -262,3 +263,8 @@ module _ (s t : LexerState) (going : s.ended ≡ false) (same : t.source ≡ s.s
   pub other_steps : (u : LexerState) (item : Result TokenRange LexFailure) → MayTake s None u → TakesItem u item t
       → range_steps s (Some item) t
   other_steps u item e h = (going, same, item_given s item t (subst (λ x. TakesItem x item t) e h))
+
+  pub other_or_none : (u : LexerState) (item : Result TokenRange LexFailure) → MayTake s None u → TakesItem u item t
+      → range_or_none s (result_ok item) t
+  other_or_none u (Ok range) e h = other_steps u (Ok range) e h
+  other_or_none u (Err failure) e h = (failure, other_steps u (Err failure) e h)

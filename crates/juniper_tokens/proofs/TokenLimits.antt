@@ -5,6 +5,7 @@ use Rattle.std.specs.Result.{IsErrAnd}
 use Rattle.std.proofs.lemmas.List.{length-map}
 use Rattle.graphql_lexical.specs.Characters.{Text}
 use Rattle.graphql_lexical.specs.Place.{Place, Span, place}
+use Rattle.graphql_lexical.specs.Kinds.{LexicalError, UnknownEscapeSequence}
 use Rattle.graphql_lexical.specs.Cutting.{Lexeme, CutAfter, BreaksThere}
 use Rattle.graphql_lexical.specs.Cutting as cutting
 use Rattle.juniper_tokens.specs.declared.token_range.TokenRange.{TokenRange}
@@ -47,6 +48,27 @@ module _ (s : LexerState) (ranges : List TokenRange) (t u : LexerState) (gathere
   same_source : t.source ≡ s.source
   same_source = gathered.gathered.source
 
+  -- the lexical error where there is no token
+  breaks_there : (f : LexFailure) → range_steps t (Some (Err f)) u
+      → (error : LexicalError) × (at : Place) × MeetsError t error at
+  breaks_there failures.Memory h = (UnknownEscapeSequence h.2.text, h.2.at, h.2.breaks)
+  breaks_there (failures.Fault fault) h = (view_lexer_error fault.item, fault.span.start, h.2.breaks)
+
+  pub few_before : (f : LexFailure) → range_steps t (Some (Err f)) u → (most : ℕ) → length ranges ≤ most → Few most
+  few_before f h most few =
+      let broken = breaks_there f h in
+      let breaks : MeetsError (at_index s t.index) broken.0 broken.1 =
+      subst (λ (source : List ℕ). BreaksThere (passed source t.index) (ahead source t.index) broken.0 broken.1)
+      same_source broken.2 in
+      record {
+        tokens = range_lexemes s.source ranges;
+        done = passed s.source t.index;
+        after = ahead s.source t.index;
+        leads = gathered_open s (range_lexemes s.source ranges) t gathered.gathered h.0;
+        ends = inr (broken.0, broken.1, breaks);
+        few = omega (arith, few, length-map ranges (range_lexeme s.source));
+      }
+
   module _ (failure : LexFailure) (step : range_steps t (Some (Err failure)) u) {X : Type 0}
       (result : Result X LimitedLexFailure) (is : IsErrAnd result (λ x. x ≡ limited.Lex failure)) where
     is_error : (r : Result X LimitedLexFailure) → IsErrAnd r (λ x. x ≡ limited.Lex failure)
@@ -69,18 +91,7 @@ module _ (s : LexerState) (ranges : List TokenRange) (t u : LexerState) (gathere
     module _ (most : ℕ) (few : length ranges ≤ most) where
       counted : (f : LexFailure) → range_steps t (Some (Err f)) u → IfCounted {X = X} (Err (limited.Lex f)) (Few most)
       counted failures.Memory h = tt
-      counted (failures.Fault fault) h =
-          let breaks : MeetsError (at_index s t.index) (view_lexer_error fault.item) fault.span.start =
-          subst (λ (source : List ℕ). BreaksThere (passed source t.index) (ahead source t.index) (view_lexer_error fault.item) fault.span.start)
-          same_source h.2.breaks in
-          record {
-            tokens = range_lexemes s.source ranges;
-            done = passed s.source t.index;
-            after = ahead s.source t.index;
-            leads = gathered_open s (range_lexemes s.source ranges) t gathered.gathered h.0;
-            ends = inr (view_lexer_error fault.item, fault.span.start, breaks);
-            few = omega (arith, few, length-map ranges (range_lexeme s.source));
-          }
+      counted (failures.Fault fault) h = few_before (failures.Fault fault) h most few
 
       pub counted_before : IfCounted result (Few most)
       counted_before =

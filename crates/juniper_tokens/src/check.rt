@@ -1,5 +1,5 @@
-//! A source within limits, of which no token is kept.
-ghost use Rattle.std.specs.Prelude.{◌≡◌, ◌+◌, ◌<◌, ◌≤◌, ◌^◌, [], ◌∷◌, ◌++◌, List, length, IfOk};
+//! A source within limits. No token is kept.
+ghost use Rattle.std.specs.Prelude.{◌≡◌, ◌+◌, ◌<◌, ◌≤◌, ◌^◌, [], ◌∷◌, ◌++◌, List, length, IfOk, IfSome, None};
 ghost use Rattle.std.specs.Str.{chars};
 ghost use Rattle.graphql_lexical.specs.Cutting.{Cut, Lexeme};
 ghost use Rattle.juniper_tokens.specs.Counting.{HasFew, HasMore, IfCounted, IfFaultWithin, IfTooMany};
@@ -53,6 +53,28 @@ pub fn check_tokens(
             return Err(LimitedLexFailure::TooMany(span));
         }
         brackets.read(range, &lexer, depth);
+        count += 1;
+    }
+}
+
+/// Returns the span of the first token past a limit of `most` tokens, if it comes before the source's end and before its
+/// first lexical error. Otherwise returns None.
+///
+/// Takes no memory. The source isn't read past that token or that error.
+pub fn first_token_past(alloc: Global, source: &str, most: usize) -> Option<Span>
+    ensures few { result ≡ None → HasFew [] (chars source.now) most }
+    ensures many { IfSome result (λ span. HasMore [] (chars source.now) most (view_span span)) }
+{
+    let mut lexer = Lexer::new(alloc, source);
+    let mut count = 0_usize;
+    loop {
+        let range = lexer.next_range_or_none()?;
+        if range.kind == Kind::EndOfFile {
+            return None;
+        }
+        if count >= most {
+            return Some(lexer.span_from(range.start.characters));
+        }
         count += 1;
     }
 }

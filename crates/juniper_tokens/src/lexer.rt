@@ -9,7 +9,7 @@ ghost use Rattle.juniper_tokens.specs.Lexing.{started};
 ghost use Rattle.juniper_tokens.specs.LineTables.{lines_of};
 ghost use Rattle.juniper_tokens.specs.device.LexingByScan.{past_ignored};
 ghost use Rattle.juniper_tokens.specs.device.LineSteps.{CountsLines, HasLines};
-ghost use Rattle.juniper_tokens.specs.device.Ranges.{TakesRange, TakesItem, TakesPlain, MayTake, IsRange, range_lexeme, range_steps};
+ghost use Rattle.juniper_tokens.specs.device.Ranges.{TakesRange, TakesItem, TakesPlain, MayTake, IsRange, range_lexeme, range_or_none, range_steps};
 ghost use Rattle.juniper_tokens.specs.device.Scans.{Finds, IsPlain};
 ghost use Rattle.juniper_tokens.specs.device.Walks.{first_class};
 ghost use Rattle.juniper_tokens.specs.Tokens.{view_token};
@@ -279,14 +279,18 @@ impl<'a> Lexer<'a> {
         ensures takes { TakesItem self.old result self.new }
     {
         let mut lexer = self.duplicate();
-        let item = lexer.scan_out_of_line();
+        let item = lexer.scan_out_of_line(Some(self.alloc));
         *self = lexer;
         item
     }
 
-    /// The same. Most tokens are plain, so the code for all others stands out of the way.
+    /// The same. Most tokens are plain, so the code for all others stands out of the way. Without an allocator it takes no
+    /// memory: an unknown escape is then the failure `Memory`.
     #[inline(never)]
-    pub(crate) fn scan_out_of_line(&mut self) -> Result<TokenRange, LexFailure>
+    pub(crate) fn scan_out_of_line(
+        &mut self,
+        alloc: Option<Global>,
+    ) -> Result<TokenRange, LexFailure>
         ensures source { self.new.source ≡ self.old.source }
         ensures takes { TakesItem self.old result self.new }
     {
@@ -295,7 +299,7 @@ impl<'a> Lexer<'a> {
             characters: self.position.index(),
         };
         let rest = text_from(self.source, here);
-        match scan_token(self.alloc, rest) {
+        match scan_token(alloc, rest) {
             Ok(found) => Ok(self.advance(found)),
             Err(Missed::Fault(error, at)) => {
                 self.ended = true;
@@ -318,6 +322,23 @@ impl<'a> Lexer<'a> {
         match self.next_plain() {
             Some(range) => Ok(range),
             None => self.scan(),
+        }
+    }
+
+    /// Takes the next token, which may be the end. Returns None at the first lexical error. Takes no memory.
+    #[inline(always)]
+    pub(crate) fn next_range_or_none(&mut self) -> Option<TokenRange>
+        requires { self.old.ended ≡ false }
+        ensures { range_or_none self.old result self.new }
+    {
+        match self.next_plain() {
+            Some(range) => Some(range),
+            None => {
+                let mut lexer = self.duplicate();
+                let item = lexer.scan_out_of_line(None);
+                *self = lexer;
+                item.ok()
+            }
         }
     }
 

@@ -150,7 +150,7 @@ impl<'a> TokenStream<'a> {
         lexer.skip_ignored();
         self.lexer = lexer.duplicate();
         let start = lexer.position();
-        match lexer.scan_out_of_line() {
+        match lexer.scan_out_of_line(None) {
             Ok(range) if range.kind == Kind::EndOfFile => {
                 self.lexer = lexer;
                 next.range = range;
@@ -167,7 +167,7 @@ impl<'a> TokenStream<'a> {
         ensures { Gives self.old (rest_here self.old) next.new self.new }
     {
         let mut lexer = self.lexer.duplicate();
-        match lexer.scan_out_of_line() {
+        match lexer.scan_out_of_line(None) {
             Ok(range) => {
                 next.range = range;
                 next.start = self.lexer.position();

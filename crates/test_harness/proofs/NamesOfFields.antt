@@ -11,7 +11,7 @@ use Rattle.juniper.specs.declared.tree.ast.Selection.{Selection}
 use Rattle.juniper.specs.declared.tree.ast.Selection.TheVariants as V
 use Rattle.juniper.specs.declared.tree.ast.Definition.{Definition}
 use Rattle.juniper.specs.View.{view_word, view_selection, view_selections, view_field, view_definition}
-use Rattle.juniper.specs.laws.TreeLaws.{SeesSelections}
+use Rattle.juniper.specs.Cases.{SeesSelections}
 use Rattle.test_harness.specs.Fields.{texts, fields_of, fields_within, fields_among, fields_in, field_names}
 
 -- names that grow by some and then by others

@@ -1,15 +1,11 @@
 -- A prefix of a source, and tokens after it with spaces between.
-use Rattle.std.specs.Prelude.{◌≡◌, List, [], ◌∷◌, ◌++◌, take, codes}
+use Rattle.std.specs.Prelude.{◌≡◌, List, [], ◌∷◌, ◌++◌, codes}
 use Rattle.std.specs.List.{AllZip}
 use Rattle.graphql_lexical.specs.Characters.{Text}
 use Rattle.graphql_lexical.specs.Kinds.{EndOfFile}
 use Rattle.graphql_lexical.specs.Tokens.{Spells}
-use Rattle.graphql_lexical.specs.Cutting.{Lexeme, span_of, Cut}
+use Rattle.graphql_lexical.specs.Cutting.{Lexeme, up_to, Cut}
 use Rattle.graphql_lexical.specs.laws.Alike.{Alike}
-
--- the source up to the end of the last of these tokens
-abbrev pub up_to : Text → List Lexeme → Text
-up_to source tokens = take (span_of tokens).end.index source
 
 -- The text is these tokens in a row, each spelled, with a space after it.
 abbrev pub IsSpaced : Text → List Lexeme → Type 0

@@ -3,10 +3,12 @@ ghost use Rattle.std.specs.Prelude.{◌≡◌, ◌++◌, ◌∷◌, [], List, Op
 ghost use Rattle.graphql_grammar.specs.Tokens.{Located, Word};
 ghost use Rattle.graphql_grammar.specs.Tree as tree;
 ghost use Rattle.graphql_grammar.specs.Tree.{Value as Seen, Null, Scalar as SeenScalar, Enum, Variable, ListOf, Object, items_of, fields_of, TypeRef};
+ghost use Rattle.juniper_tokens.specs.declared.error.ParseFailure.TheVariants as parses;
 ghost use Rattle.juniper_tokens.specs.Spans.{view_span};
 ghost use Rattle.juniper_tokens.specs.Tokens.{scalar_kind, scalar_text};
 ghost use Rattle.juniper_values.specs.Scalar.{Content, Reading};
 ghost use Rattle.juniper_values.specs.View.{view_located};
+ghost use Rattle.juniper_values.specs.declared.scalar.ReadFailure.TheVariants as reads;
 ghost use Rattle.juniper.specs.Building.{Opened, a_list, an_object, an_object_field, some_arguments, an_argument, a_directive, a_field, a_spread, an_inline_fragment, some_variables, a_variable, an_operation, a_fragment, BuildsEach, BuildsList, BuildsOptional, BuildsOptionalSet, BuildsRead, BuildsSet, FailsReading, IsUnread};
 ghost use Rattle.juniper.specs.View.{type_of};
 
@@ -47,7 +49,8 @@ impl<X: Drop> Gather<X> for Vec<X> {
 
 /// What a builder returns for a token with this span of which its scalar type made no scalar.
 pub fn unread(failure: ReadFailure, span: Span) -> ParseFailure
-    ensures { (reading : Reading) → FailsReading reading failure → IsUnread reading (view_span span) result }
+    ensures gives { (reading : Reading) → FailsReading reading failure → IsUnread reading (view_span span) result }
+    ensures memory { result ≡ parses.Memory → failure ≡ reads.Memory }
 {
     match failure {
         ReadFailure::Refused(error) => ParseFailure::Refused(Spanning::new(span, error)),
@@ -57,8 +60,13 @@ pub fn unread(failure: ReadFailure, span: Span) -> ParseFailure
 
 /// Builds something of each part of a document, in the order in which the parts end.
 ///
-/// A part that has others in it is opened before them. Each call returns `AllocError` if memory runs out, and what was
-/// built is of no use then.
+/// A part that has others in it is opened before them. A call that returns a `Result` returns `AllocError` if memory runs
+/// out, and what was built is of no use then.
+///
+/// The calls that end a part return it as it is, and can't fail. Those are `list`, `object`, `arguments`, `argument`,
+/// `directive`, `field`, `fragment_spread`, `inline_fragment`, `variables`, `variable_definition`, `operation` and
+/// `fragment`. A builder that needs memory for such a part, for a `Box` of it or its place in a list, takes it when the part
+/// is opened, or when the part is gathered.
 pub trait Builder<S: ParseScalarValue<S>> {
     /// A name of the source.
     type Name: SourceText + NameText + Drop;

@@ -71,6 +71,11 @@ abbrev pub range_steps : LexerState → Option (Result TokenRange LexFailure) �
 range_steps s None t = (s.ended ≡ true) × (t ≡ s)
 range_steps s (Some item) t = (s.ended ≡ false) × (t.source ≡ s.source) × GivesRangeItem s item t
 
+-- From state s a step gives this range, or none at a lexical error, and leaves state t.
+abbrev pub range_or_none : LexerState → Option TokenRange → LexerState → Type 0
+range_or_none s (Some range) t = range_steps s (Some (Ok range)) t
+range_or_none s None t = (failure : LexFailure) × range_steps s (Some (Err failure)) t
+
 -- ---- by the computed scan
 
 -- the range of a token that was found after this many bytes of a source, at this place

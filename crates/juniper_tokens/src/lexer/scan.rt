@@ -28,7 +28,7 @@ pub(crate) struct Found {
 pub(crate) enum Missed {
     /// A lexical error, and the number of characters before it.
     Fault(LexerError, usize),
-    /// Memory ran out.
+    /// An unknown escape, for whose text there is no memory or no allocator.
     Memory,
 }
 
@@ -80,9 +80,12 @@ fn block_fault(rest: &str, at: usize) -> Missed
 }
 
 // The error if the text after `marks`, a backslash or a backslash and `u`, makes no escape with them.
-fn escape_fault(alloc: Global, marks: &str, rest: &str, at: usize) -> Missed
+fn escape_fault(alloc: Option<Global>, marks: &str, rest: &str, at: usize) -> Missed
     ensures { Misses result (missed at (UnknownEscapeSequence (chars marks.now ++ chars rest.now))) }
 {
+    let Some(alloc) = alloc else {
+        return Missed::Memory;
+    };
     match joined(alloc, marks, rest) {
         Ok(text) => Missed::Fault(LexerError::UnknownEscapeSequence(text), at),
         Err(_) => Missed::Memory,
@@ -90,7 +93,7 @@ fn escape_fault(alloc: Global, marks: &str, rest: &str, at: usize) -> Missed
 }
 
 // The error after a backslash.
-fn backslash_fault(alloc: Global, rest: &str, at: usize) -> Missed
+fn backslash_fault(alloc: Option<Global>, rest: &str, at: usize) -> Missed
     ensures { Misses result (after_backslash at (chars rest.now)) }
 {
     if rest.is_empty() {
@@ -101,7 +104,7 @@ fn backslash_fault(alloc: Global, rest: &str, at: usize) -> Missed
 }
 
 // The error after a backslash and the `u` that stands at a place.
-fn unicode_fault(alloc: Global, rest: &str, at: usize) -> Missed
+fn unicode_fault(alloc: Option<Global>, rest: &str, at: usize) -> Missed
     requires { at + 1 + length rest.now < 2 ^ 64 }
     ensures { Misses result (after_u at (chars rest.now)) }
 {
@@ -114,7 +117,7 @@ fn unicode_fault(alloc: Global, rest: &str, at: usize) -> Missed
 }
 
 // The same, if `end` characters of the text have been read, `digits` digits after the `u` among them.
-fn digits_fault(alloc: Global, text: &str, end: usize, digits: usize) -> Missed
+fn digits_fault(alloc: Option<Global>, text: &str, end: usize, digits: usize) -> Missed
     requires end { end ≤ length text.now }
     requires digits { digits < 4 }
     ensures { Misses result (after_u (end - (digits + 1)) (drop (end - digits) (chars text.now))) }
@@ -157,7 +160,7 @@ fn scan_unknown(text: &str) -> Result<Found, Missed>
 }
 
 // The token or the lexical error at which the steps have stopped.
-fn scan_reached(alloc: Global, text: &str, reached: Reached) -> Result<Found, Missed>
+fn scan_reached(alloc: Option<Global>, text: &str, reached: Reached) -> Result<Found, Missed>
     requires offset { IsOffset reached.end (chars text.now) }
     requires within { reached.end.characters ≤ length text.now }
     ensures { MeetsScan result (chars text.now) (answer reached.state reached.end.characters (chars text.now)) }
@@ -200,8 +203,8 @@ fn scan_block(text: &str, part: Block, end: Offset) -> Result<Found, Missed>
     }
 }
 
-/// The token at the front of a text, or the lexical error there.
-pub(crate) fn scan_token(alloc: Global, text: &str) -> Result<Found, Missed>
+/// The token at the front of a text, or the lexical error there. Without an allocator an unknown escape is `Memory`.
+pub(crate) fn scan_token(alloc: Option<Global>, text: &str) -> Result<Found, Missed>
     ensures { MeetsScan result (chars text.now) (scan (chars text.now)) }
 {
     scan_reached(alloc, text, walk_token(text))

@@ -13,4 +13,4 @@ returns-in-Ok c =
     )
 
 pub returns-in-Err : goal.returns-in-Err
-returns-in-Err c = c.unread.ensures _ c.in-Err.ensures
+returns-in-Err c = c.unread.ensures.gives _ c.in-Err.ensures
