@@ -201,14 +201,15 @@ run_program() {
     if [ "$(stat -c %s "$folder/text")" -gt $longest ]; then
         ends_with "$name: a checked run takes no text of more than $longest bytes" 125
     fi
-    run_checked "$name"
+    run_checked "$name" "$@"
 }
 
-# run_checked NAME: the checked run on the file `text` of $folder. Its last line says whether a status is the program's. Only
+# run_checked NAME WORD ..: the checked run on the file `text` of $folder. Its last line says whether a status is the program's. Only
 # then its output is a report.
 run_checked() {
     local name=$1 status last
-    (cd "$root/crates/$name" && rt try) < "$folder/text" > "$folder/report" 2> "$folder/messages"
+    shift
+    (cd "$root/crates/$name" && rt try -- "$@") < "$folder/text" > "$folder/report" 2> "$folder/messages"
     status=$?
     last=$(tail -n 1 "$folder/messages")
     case $last in
