@@ -162,7 +162,8 @@ typedef struct {
     uint32_t definition;  /* the index of the operation's node */
     uint32_t fields;      /* the fields, at every depth */
     uint32_t aliases;     /* the fields with an alias */
-    uint32_t directives;  /* those of the operation, of what is selected, and of a fragment each time that it is spread */
+    uint32_t directives;  /* those of the operation, of its variable definitions, of what is selected, and of a fragment each time
+                             that it is spread */
     uint32_t root_fields; /* the fields that are in no other field */
     uint32_t depth;       /* how many fields are nested in one another at most: 1 if no field is in another */
 } firthnapkin_complexity;
@@ -312,13 +313,13 @@ uint32_t firthnapkin_excerpt(const uint8_t *source, size_t length, const firthna
                              size_t buffer_capacity, size_t *buffer_length);
 
 /* Says whether a source has more tokens than `max_tokens`, its end not counted. The whole source is checked as UTF-8, then
- * cut into tokens up to the first one too many. No memory is taken but for the positions of the error. firthnapkin_parse takes
- * the same limit; this call is for programs that parse elsewhere.
+ * cut into tokens up to the first one too many. Memory is taken for the positions of the error alone, if the source isn't ASCII.
+ * firthnapkin_parse takes the same limit; this call is for programs that parse elsewhere.
  *
  * FIRTHNAPKIN_OK: there are no more before the end, or before the first lexical error. FIRTHNAPKIN_TOO_MANY_TOKENS: there are
- * more before either, and the error is at the first one too many; what is after it is UTF-8, and may have lexical errors. It
- * also returns FIRTHNAPKIN_NOT_UTF8, FIRTHNAPKIN_OUT_OF_MEMORY and FIRTHNAPKIN_SOURCE_TOO_LONG. All statuses but
- * FIRTHNAPKIN_TOO_MANY_TOKENS leave the error as it was. */
+ * more before either, and the error is at the first one too many; what is after it is UTF-8, and may have lexical errors.
+ * FIRTHNAPKIN_OUT_OF_MEMORY: there are more, and there was no memory for the error's positions. It also returns
+ * FIRTHNAPKIN_NOT_UTF8 and FIRTHNAPKIN_SOURCE_TOO_LONG. All statuses but FIRTHNAPKIN_TOO_MANY_TOKENS leave the error as it was. */
 uint32_t firthnapkin_count(const uint8_t *source, size_t length, uint32_t max_tokens, firthnapkin_error *error);
 
 /* Cuts a source into tokens, the last of which is its end. It may have no more than `max_tokens` tokens, its end not counted;

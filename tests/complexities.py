@@ -81,9 +81,22 @@ class Writer:
         inner = self.selections(after, depth + 1) if depth < 3 and self.random.random() < 0.3 else None
         return Field(has_alias, directives, inner)
 
+    def variables(self) -> int:
+        """Variable definitions or none. Their directives are the operation's."""
+        if self.random.random() < 0.7:
+            return 0
+        count = 0
+        self.text += "("
+        for i in range(self.random.randrange(1, 4)):
+            self.text += f" $v{i}: [T!] = 1"
+            count += self.directives()
+        self.text += " )"
+        return count
+
     def definition(self, fragment: Optional[str], after: int) -> Definition:
         self.text += f" fragment {fragment} on T" if fragment else " query Q"
-        return Definition(fragment, self.directives(), self.selections(after, 0))
+        directives = 0 if fragment else self.variables()
+        return Definition(fragment, directives + self.directives(), self.selections(after, 0))
 
     def definitions(self) -> List[Definition]:
         """The operations are among the fragments, whose order is that of their names in `names`."""

@@ -28,7 +28,7 @@ var counted = []struct {
 }{
 	{"{a}", []Complexity{{1, 0, 0, 1, 1}}},
 	{"{ a a @skip(if: true) x: b { c } }", []Complexity{{4, 1, 1, 3, 2}}},
-	{"query ($v: [Int! ] = [1] @n) @a @b { c: a @d { b ...F @e ... @g { h } } } fragment F on T @f { i: j { k } }", []Complexity{{5, 2, 6, 1, 3}}},
+	{"query ($v: [Int! ] = [1] @n) @a @b { c: a @d { b ...F @e ... @g { h } } } fragment F on T @f { i: j { k } }", []Complexity{{5, 2, 7, 1, 3}}},
 	{"{ ...F ...F @a } fragment F on T @b { c @d }", []Complexity{{2, 0, 5, 2, 1}}},
 	{"query A { ...F } fragment F on T { a(b: \"é\") } mutation B { b { ...F } }", []Complexity{{1, 0, 0, 1, 1}, {2, 0, 0, 1, 2}}},
 	{"fragment F on T { a }", nil},

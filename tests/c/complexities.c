@@ -95,10 +95,10 @@ static const struct {
     {"{ a a @skip(if: true) x: b { c } }", 1, {{0, 4, 1, 1, 3, 2}}},
     {"{ a { b { c } d } e }", 1, {{0, 5, 0, 0, 2, 3}}},
     {"{ x: a { y: b ... on T { z: c } } }", 1, {{0, 3, 3, 0, 1, 2}}},
-    /* Directives of variable definitions aren't counted, those of a fragment each time that it is spread. */
+    /* Directives of variable definitions are the operation's, and those of a fragment count each time that it is spread. */
     {"query ($v: [Int! ] = [1] @n) @a @b { c: a @d { b ...F @e ... @g { h } } } fragment F on T @f { i: j { k } }",
      1,
-     {{0, 5, 2, 6, 1, 3}}},
+     {{0, 5, 2, 7, 1, 3}}},
     {"{ ...F ...F @a } fragment F on T @b { c @d }", 1, {{0, 2, 0, 5, 2, 1}}},
     /* A chain of fragments. */
     {"{ ...A ...A } fragment A on T { a ...B } fragment B on T { b { c ...C } } fragment C on T { d }",

@@ -201,6 +201,28 @@ static void each(answer (*call)(const char *), const char *source) {
     check(requests == 0 || memory > 0, "memory is said to have run out, for %s", source);
 }
 
+/* The call makes so many requests for memory. */
+static void asks(answer (*call)(const char *), const char *source, long requests) {
+    with_refused(call, source, 0, 0);
+    check(asked == requests, "%ld requests for memory, not %ld, of %s", asked, requests, source);
+}
+
+/* A count takes memory for the position of a token past the limit alone, in a source that isn't ASCII. A parse takes none of an
+ * ASCII source, except for the words of an error and for a type with more modifiers than these. */
+static void takes_little(void) {
+    asks(count, "{ a", 0);
+    asks(count, "{ a }", 0);
+    asks(count, "\"\\q\"", 0);
+    asks(count, "{ \"\\u12\" }", 0);
+    asks(count, "# \xc3\xa9\n{ \"\\q\" }", 0);
+    asks(count, "# \xc3\xa9\n{ a }", 1);
+    asks(parse, "{ a }", 0);
+    asks(parse, "query($v: T!){a}", 0);
+    asks(parse, "query($v: [T]){a}", 0);
+    asks(parse, "query($v: [T!]){a}", 0);
+    asks(parse, "query($v: [T]!){a}", 1);
+}
+
 #define TEN(text) text text text text text text text text text text
 #define LONG_ERROR "query a " TEN(TEN("nnn"))
 
@@ -239,5 +261,6 @@ int main(void) {
         each(whole_canonical, sources[i]);
         each(whole_excerpt, sources[i]);
     }
+    takes_little();
     return counted();
 }

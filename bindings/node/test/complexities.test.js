@@ -21,7 +21,7 @@ const NUMBERS = [[7, 5, 4, 3, 2], [4, 3, 1, 4, 1]];
 const COUNTED = [
   ["{a}", [[1, 0, 0, 1, 1]]],
   ["{ a a @skip(if: true) x: b { c } }", [[4, 1, 1, 3, 2]]],
-  ["query ($v: [Int! ] = [1] @n) @a @b { c: a @d { b ...F @e ... @g { h } } } fragment F on T @f { i: j { k } }", [[5, 2, 6, 1, 3]]],
+  ["query ($v: [Int! ] = [1] @n) @a @b { c: a @d { b ...F @e ... @g { h } } } fragment F on T @f { i: j { k } }", [[5, 2, 7, 1, 3]]],
   ["{ ...F ...F @a } fragment F on T @b { c @d }", [[2, 0, 5, 2, 1]]],
   ['query A { ...F } fragment F on T { a(b: "\u00e9") } mutation B { b { ...F } }', [[1, 0, 0, 1, 1], [2, 0, 0, 1, 2]]],
   ["fragment F on T { a }", []],

@@ -29,7 +29,7 @@ COUNTED: List[Tuple[str, List[Tuple[int, int, int, int, int]]]] = [
     ("{ x: a { y: b ... on T { z: c } } }", [(3, 3, 0, 1, 2)]),
     (
         "query ($v: [Int! ] = [1] @n) @a @b { c: a @d { b ...F @e ... @g { h } } } fragment F on T @f { i: j { k } }",
-        [(5, 2, 6, 1, 3)],
+        [(5, 2, 7, 1, 3)],
     ),
     ("{ ...F ...F @a } fragment F on T @b { c @d }", [(2, 0, 5, 2, 1)]),
     ("{ ...A ...A } fragment A on T { a ...B } fragment B on T { b { c ...C } } fragment C on T { d }", [(8, 0, 0, 4, 2)]),

@@ -54,7 +54,7 @@ fn numbers_of_operations() {
         ("{ a a @skip(if: true) x: b { c } }", vec![[4, 1, 1, 3, 2]]),
         (
             "query ($v: [Int! ] = [1] @n) @a @b { c: a @d { b ...F @e ... @g { h } } } fragment F on T @f { i: j { k } }",
-            vec![[5, 2, 6, 1, 3]],
+            vec![[5, 2, 7, 1, 3]],
         ),
         ("{ ...F ...F @a } fragment F on T @b { c @d }", vec![[2, 0, 5, 2, 1]]),
         (

@@ -22,7 +22,9 @@ pub extern "C" fn firthnapkin_count(
     ensures statuses { IsCountStatus result }
     ensures few { result ≡ OK → IsUtf8 source.now × HasFew [] (chars source.now) max_tokens }
     ensures many { result ≡ TOO_MANY_TOKENS → IsUtf8 source.now × ((span : places.Span) × HasMore [] (chars source.now) max_tokens span × (fault.new ≡ many_fault (chars source.now) span)) }
-    ensures memory { result ≡ OUT_OF_MEMORY → IsUtf8 source.now }
+
+    // There are more, but there was no memory for where.
+    ensures memory { result ≡ OUT_OF_MEMORY → IsUtf8 source.now × ((span : places.Span) × HasMore [] (chars source.now) max_tokens span) }
     ensures not_utf8 { result ≡ NOT_UTF8 → ¬ IsUtf8 source.now }
     ensures too_long { result ≡ SOURCE_TOO_LONG ↔ 2 ^ 32 ≤ length source.now }
     ensures fault_kept { result ≢ TOO_MANY_TOKENS → fault.new ≡ fault.old }

@@ -33,7 +33,9 @@ pub extern "C" fn firthnapkin_excerpt(
         × ((length buffer.old < length (excerpt_bytes source.now fault.now.start.byte))
         × (buffer_length.new ≡ length (excerpt_bytes source.now fault.now.start.byte)))) }
     ensures invalid { result ≡ INVALID_ERROR → IsUtf8 source.now × ¬ IsBorder source.now fault.now.start.byte }
-    ensures memory { result ≡ OUT_OF_MEMORY → IsUtf8 source.now }
+
+    // There are lines, but there was no memory for them.
+    ensures memory { result ≡ OUT_OF_MEMORY → IsUtf8 source.now × IsBorder source.now fault.now.start.byte }
     ensures not_utf8 { result ≡ NOT_UTF8 → ¬ IsUtf8 source.now }
     ensures too_long { result ≡ SOURCE_TOO_LONG ↔ 2 ^ 32 ≤ length source.now }
 

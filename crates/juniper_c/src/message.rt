@@ -1,7 +1,7 @@
 //! An error of a source in words, in the caller's memory.
 ghost use Rattle.std.specs.Prelude.{◌≡◌, ◌≢◌, ◌<◌, ◌≤◌, ◌^◌, ◌↔◌, List, ℕ, length, IsUtf8};
 ghost use Rattle.juniper_flat.specs.Answers.{Begins};
-ghost use Rattle.juniper_flat.specs.Messages.{AreWords, IsNoErrorOf, IsWordsStatus};
+ghost use Rattle.juniper_flat.specs.Messages.{AreWords, HasWords, IsNoErrorOf, IsWordsStatus};
 
 use juniper_flat::buffer::fill;
 use juniper_flat::fault::Fault;
@@ -30,9 +30,11 @@ pub extern "C" fn firthnapkin_message(
     ensures too_small { result ≡ BUFFER_TOO_SMALL → IsUtf8 source.now × ((message : List ℕ) × AreWords source.now fault.now message
         × (length buffer.old < length message) × (buffer_length.new ≡ length message)) }
 
-    // No call on the source gives the error.
-    ensures invalid { result ≡ INVALID_ERROR → IsUtf8 source.now × IsNoErrorOf source.now fault.now }
-    ensures memory { result ≡ OUT_OF_MEMORY → IsUtf8 source.now }
+    // No call on the source gives the error, and it has no words.
+    ensures invalid { result ≡ INVALID_ERROR → IsUtf8 source.now × (IsNoErrorOf source.now fault.now × ¬ HasWords source.now fault.now) }
+
+    // It has words, but there was no memory for them.
+    ensures memory { result ≡ OUT_OF_MEMORY → IsUtf8 source.now × HasWords source.now fault.now }
     ensures not_utf8 { result ≡ NOT_UTF8 → ¬ IsUtf8 source.now }
     ensures too_long { result ≡ SOURCE_TOO_LONG ↔ 2 ^ 32 ≤ length source.now }
 

@@ -1,5 +1,5 @@
 -- The complexity of a definition by its spreads is that by its selections.
-use Rattle.std.proofs.Common.{◌≡◌, ℕ, suc, List, [], ◌∷◌, ◌++◌, Some, ap, sym, subst, ◌∙◌}
+use Rattle.std.proofs.Common.{◌≡◌, ℕ, ◌+◌, suc, List, [], ◌∷◌, ◌++◌, Some, ap, sym, subst, ◌∙◌}
 use Rattle.std.specs.List.{slice_get}
 use Rattle.graphql_grammar.specs.Tree as tree
 use Rattle.graphql_lexical.specs.Place.{Span}
@@ -9,6 +9,7 @@ use Rattle.graphql_grammar.specs.Tree.{Definition}
 use Rattle.juniper_outlines.specs.Complexities.{nothing, plus, in_a_field}
 use Rattle.juniper_outlines.specs.Sums.{at_level}
 use Rattle.juniper_complexity.specs.Parts.{Reference, directive_count, directives_complexity, field_complexity}
+use Rattle.juniper_complexity.specs.Parts.{variable_directive_count}
 use Rattle.juniper_complexity.specs.Parts.{spreads_of, spreads_of_all, spreads_of_definition, fragment_at}
 use Rattle.juniper_complexity.specs.device.BySpreads.{own_of, own_of_all, own_of_definition, HasBySpreads}
 use Rattle.juniper_complexity.specs.device.BySpreads.{has_by_spreads, SpreadsAdd, none_adds, first_adds}
@@ -136,8 +137,9 @@ module _ {C : Type 0} (ds : List (Definition C)) where
       → c ≡ plus (own_of_definition d) (sum (spreads_of_definition d) bs) → DefinitionHas ds d c
   whole (tree.Operation type name variables dirs ss span) c bs k e =
       let a = row 0 ss bs k in
-      let total = e ∙ sums_whole (directive_count dirs) (own_of_all 0 ss) (sum (spreads_of_all 0 ss) bs)
-      a.complexity a.sums in
+      let total = e
+      ∙ sums_whole (variable_directive_count variables + directive_count dirs) (own_of_all 0 ss)
+      (sum (spreads_of_all 0 ss) bs) a.complexity a.sums in
       subst (λ (z : Complexity). DefinitionHas ds (tree.Operation type name variables dirs ss span) z) (sym total)
       (operation type name variables dirs ss span a.has_it)
   whole (tree.Fragment name condition dirs ss span) c bs k e =

@@ -1,10 +1,11 @@
 -- The complexity of a definition by its selections is that by its spreads.
-use Rattle.std.proofs.Common.{◌≡◌, ℕ, suc, List, [], ◌∷◌, ◌++◌, Some, ap, sym, subst, ◌∙◌}
+use Rattle.std.proofs.Common.{◌≡◌, ℕ, suc, ◌+◌, List, [], ◌∷◌, ◌++◌, Some, ap, sym, subst, ◌∙◌}
 use Rattle.std.specs.List.{slice_get}
 use Rattle.graphql_grammar.specs.Tree.{Selection, Selections, Definition}
 use Rattle.juniper_outlines.specs.Complexities.{plus}
 use Rattle.juniper_outlines.specs.Sums.{at_level}
-use Rattle.juniper_complexity.specs.Parts.{Reference, directive_count, directives_complexity, spreads_of}
+use Rattle.juniper_complexity.specs.Parts.{Reference, directive_count, directives_complexity, operation_directives}
+use Rattle.juniper_complexity.specs.Parts.{variable_directive_count, spreads_of}
 use Rattle.juniper_complexity.specs.Parts.{spreads_of_all, fragment_at}
 use Rattle.juniper_complexity.specs.device.BySpreads.{own_of, own_of_all, HasBySpreads, has_by_spreads, SpreadsAdd}
 use Rattle.juniper_complexity.specs.device.BySpreads.{none_adds, first_adds}
@@ -57,9 +58,10 @@ module _ {C : Type 0} (ds : List (Definition C)) where
         → HasBySpreads ds i c
     definition_of (operation {a = a} type name variables dirs ss span k) i e =
         let w = row_of k 0 in
-        let total = sums_whole (directive_count dirs) (own_of_all 0 ss) (sum (spreads_of_all 0 ss) w.parts) a w.sums in
+        let count = variable_directive_count variables + directive_count dirs in
+        let total = sums_whole count (own_of_all 0 ss) (sum (spreads_of_all 0 ss) w.parts) a w.sums in
         subst (λ (z : Complexity). HasBySpreads ds i z) total
-        (has_by_spreads _ e (adds w.gathered (plus (directives_complexity dirs) (own_of_all 0 ss))))
+        (has_by_spreads _ e (adds w.gathered (plus (operation_directives variables dirs) (own_of_all 0 ss))))
     definition_of (fragment {a = a} name condition dirs ss span k) i e =
         let w = row_of k 0 in
         let total = sums_whole (directive_count dirs) (own_of_all 0 ss) (sum (spreads_of_all 0 ss) w.parts) a w.sums in

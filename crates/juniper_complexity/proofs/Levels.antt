@@ -3,12 +3,9 @@ use Rattle.std.proofs.Common.{◌≡◌, ◌+◌, ℕ, zero, suc, max, Option, r
 use Rattle.graphql_grammar.specs.Tokens.{Word}
 use Rattle.juniper_outlines.specs.Complexities.{nothing, plus, in_a_field}
 use Rattle.juniper_outlines.specs.Sums.{at_level}
-use Rattle.juniper_complexity.specs.Parts.{field_complexity}
+use Rattle.juniper_complexity.specs.Parts.{field_complexity, only_directives}
 use Rattle.juniper_outlines.specs.declared.complexity.Complexity.{Complexity}
 use Rattle.juniper_complexity.proofs.Algebra.{same_complexity}
-
-abbrev pub only : ℕ → Complexity
-only n = record { fields = 0; aliases = 0; directives = n; root_fields = 0; depth = 0 }
 
 -- what is counted there, and what the spreads add, is this part inside so many fields
 pub record Sums (l : ℕ) (o s x : Complexity) : Type 0 where
@@ -48,26 +45,29 @@ sums_row l o s x p t y e f = record {
 }
 
 pub sums_leaf : (l : ℕ) (alias : Option Word) (n : ℕ)
-    → Sums l (plus (plus (at_level l (field_complexity alias)) (only n)) nothing) nothing
-    (plus (field_complexity alias) (only n))
+    → Sums l (plus (plus (at_level l (field_complexity alias)) (only_directives n)) nothing) nothing
+    (plus (field_complexity alias) (only_directives n))
 sums_leaf zero alias n = sums_by _ _ _ _ (omega arith) (omega arith) (omega arith) (omega arith) (omega arith)
 sums_leaf (suc l) alias n = sums_by _ _ _ _ (omega arith) (omega arith) (omega arith) (omega arith) (omega arith)
 
 pub sums_field : (l : ℕ) (alias : Option Word) (n : ℕ) (o s x : Complexity) → Sums (suc l) o s x
-    → Sums l (plus (plus (at_level l (field_complexity alias)) (only n)) o) s
-    (plus (plus (field_complexity alias) (only n)) (in_a_field x))
+    → Sums l (plus (plus (at_level l (field_complexity alias)) (only_directives n)) o) s
+    (plus (plus (field_complexity alias) (only_directives n)) (in_a_field x))
 sums_field zero alias n o s x e =
     sums_by _ _ _ _ (omega arith) (omega arith) (omega arith) (omega arith) (omega arith)
 sums_field (suc l) alias n o s x e =
     sums_by _ _ _ _ (omega arith) (omega arith) (omega arith) (omega arith) (omega arith)
 
-pub sums_spread : (l n : ℕ) (b : Complexity) → Sums l (only n) (plus (at_level l b) nothing) (plus (only n) b)
+pub sums_spread : (l n : ℕ) (b : Complexity)
+    → Sums l (only_directives n) (plus (at_level l b) nothing) (plus (only_directives n) b)
 sums_spread zero n b = sums_by _ _ _ _ (omega arith) (omega arith) (omega arith) (omega arith) (omega arith)
 sums_spread (suc l) n b = sums_by _ _ _ _ (omega arith) (omega arith) (omega arith) (omega arith) (omega arith)
 
-pub sums_inline : (l n : ℕ) (o s x : Complexity) → Sums l o s x → Sums l (plus (only n) o) s (plus (only n) x)
+pub sums_inline : (l n : ℕ) (o s x : Complexity) → Sums l o s x
+    → Sums l (plus (only_directives n) o) s (plus (only_directives n) x)
 sums_inline zero n o s x e = sums_by _ _ _ _ (omega arith) (omega arith) (omega arith) (omega arith) (omega arith)
 sums_inline (suc l) n o s x e = sums_by _ _ _ _ (omega arith) (omega arith) (omega arith) (omega arith) (omega arith)
 
-pub sums_whole : (n : ℕ) (o s x : Complexity) → Sums 0 o s x → plus (plus (only n) o) s ≡ plus (only n) x
+pub sums_whole : (n : ℕ) (o s x : Complexity) → Sums 0 o s x
+    → plus (plus (only_directives n) o) s ≡ plus (only_directives n) x
 sums_whole n o s x e = same_complexity _ _ (omega arith) (omega arith) (omega arith) (omega arith) (omega arith)

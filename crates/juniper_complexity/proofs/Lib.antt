@@ -1,6 +1,7 @@
 pub mod Algebra
 pub mod EnteredFields
 pub mod OutlineBuilders
+pub mod Variables
 pub mod ResolvedOutlines
 pub mod Selecting
 pub mod Bridge

@@ -1,6 +1,6 @@
 -- Outlines that are gathered while a document is parsed.
-use Rattle.std.proofs.Common.{◌≡◌, ℕ, suc, List, [], ◌∷◌, ◌++◌, map, length, Option, Some, None, refl, ap, sym, subst}
-use Rattle.std.proofs.Common.{◌∙◌, arith, append_assoc, append-nil}
+use Rattle.std.proofs.Common.{◌≡◌, ℕ, ◌+◌, suc, List, [], ◌∷◌, ◌++◌, map, length, Option, Some, None, refl, ap, sym}
+use Rattle.std.proofs.Common.{subst, ◌∙◌, arith, append_assoc, append-nil}
 use Rattle.std.proofs.lemmas.List.{map-append, length-replicate}
 use Rattle.std.specs.Global.{Vec}
 use Rattle.std.specs.Str.{chars}
@@ -8,14 +8,15 @@ use Rattle.graphql_lexical.specs.Place as places
 use Rattle.graphql_grammar.specs.Tokens.{Word}
 use Rattle.graphql_grammar.specs.Tree as tree
 use Rattle.graphql_grammar.specs.Tree.{Arguments, Directives, Selection, Selections, selections_of, OptionalSelections}
-use Rattle.graphql_grammar.specs.Tree.{absent, present}
+use Rattle.graphql_grammar.specs.Tree.{absent, present, Variables}
 use Rattle.juniper.specs.Building.{BuildsEach, BuildsOptional}
 use Rattle.juniper_tokens.specs.Spans.{view_span}
 use Rattle.juniper_tokens.specs.declared.span.Span as code
 use Rattle.juniper_values.specs.Scalar.{Content}
 use Rattle.juniper_outlines.specs.Complexities.{nothing, plus, capped, capped_complexity}
 use Rattle.juniper_complexity.specs.Parts.{Reference, directives_complexity, field_complexity, spreads_of}
-use Rattle.juniper_complexity.specs.Parts.{spreads_of_optional, spreads_of_all}
+use Rattle.juniper_complexity.specs.Parts.{directive_count, only_directives, operation_directives}
+use Rattle.juniper_complexity.specs.Parts.{spreads_of_optional, spreads_of_all, variable_directive_count}
 use Rattle.juniper_complexity.specs.Gathered.{seen_spread, capped_reference, Gathers, OpensField, OpensSpread, Begins}
 use Rattle.juniper_complexity.specs.Gathered.{Keeps, GathersSelection, gathered, counted_directives, KeepsDirectives}
 use Rattle.juniper_complexity.specs.Gathered.{GathersSet, GathersOptionalSet}
@@ -89,6 +90,16 @@ gathers_both a b c own_one own_two one two g h = record {
   same_level = h.same_level ∙ g.same_level;
 }
 
+pub gathers_same : (old new : OutlineBuilder) (own own_too : ℕ → Complexity) (spreads spreads_too : ℕ → List Reference)
+    → ((l : ℕ) → own_too l ≡ own l) → ((l : ℕ) → spreads_too l ≡ spreads l) → Gathers old new own spreads
+    → Gathers old new own_too spreads_too
+gathers_same old new own own_too spreads spreads_too e f g = record {
+  own_complexity = λ l x k h. g.own_complexity l x k h ∙ ap (λ y. capped_complexity (plus x y)) (sym (e l));
+  own_spreads = λ l k. g.own_spreads l k
+      ∙ ap (λ y. map seen_spread old.spreads.items ++ map capped_reference y) (sym (f l));
+  same_level = g.same_level;
+}
+
 gathers_each : (a b : OutlineBuilder) (xs : List (Unit {0})) (ss : List (Selection Content))
     → BuildsEach GathersSelection a b xs ss
     → Gathers a b (λ l. own_of_all l (selections_of ss)) (λ l. spreads_of_all l (selections_of ss))
@@ -125,6 +136,11 @@ last_of_field x f o d = same_complexity _ _ (omega arith) (omega arith) (omega a
 
 last_of_inline : (x o d : Complexity) → plus (plus x o) d ≡ plus x (plus d o)
 last_of_inline x o d = same_complexity _ _ (omega arith) (omega arith) (omega arith) (omega arith) (omega arith)
+
+last_of_operation : (v n : ℕ) (o : Complexity) → plus (plus nothing (plus (only_directives v) o)) (only_directives n)
+    ≡ plus (only_directives (v + n)) o
+last_of_operation v n o =
+    same_complexity _ _ (omega arith) (omega arith) (omega arith) (omega arith) (omega arith)
 
 last_of_definition : (o d : Complexity) → plus (plus nothing o) d ≡ plus d o
 last_of_definition o d = same_complexity _ _ (omega arith) (omega arith) (omega arith) (omega arith) (omega arith)
@@ -173,6 +189,16 @@ module _ (counted : Complexity) (ds : Directives Content) (are : counted ≡ dir
     same_level = level ∙ g.same_level;
   }
 
+  pub gathers_directives : (old new : OutlineBuilder) → new.own ≡ plus_capped old.own (capped_complexity counted)
+      → new.spreads ≡ old.spreads → new.level ≡ old.level
+      → Gathers old new (λ _. directives_complexity ds) (λ _. [])
+  gathers_directives old new e same level = record {
+    own_complexity = λ l x k f. sum_counted new.own old.own x counted (directives_complexity ds) _ e f are refl;
+    own_spreads = λ l k. ap (λ (v : Vec NamedSpread). map seen_spread v.items) same
+        ∙ sym (append-nil (map seen_spread old.spreads.items));
+    same_level = level;
+  }
+
   same_reference : (s : NamedSpread) (name : Word) (span : code.Span) (level l : ℕ) → chars s.name.now ≡ name.item
       → s.fields_around ≡ level → level ≡ capped l
       → ◌≡◌ {A = Reference} (record { name = chars s.name.now; fields_around = s.fields_around; span = view_span span })
@@ -210,3 +236,22 @@ module _ (counted : Complexity) (ds : Directives Content) (are : counted ≡ dir
     g.own_spreads 0 b.no_field
         ∙ ap (λ (ss : List NamedSpread). map seen_spread ss ++ map capped_reference (spreads_of_all 0 set)) b.no_spread,
   )
+
+  -- what an operation has at its end: first its variable definitions, and then its selections were read
+  pub gathers_operation : (opened begun old : OutlineBuilder) (vs : Option (Variables Content))
+      (set : Selections Content) (own : Complexity) → Begins opened
+      → Gathers opened begun (λ _. only_directives (variable_directive_count vs)) (λ _. [])
+      → Gathers begun old (λ l. own_of_all l set) (λ l. spreads_of_all l set)
+      → own ≡ plus_capped old.own (capped_complexity counted)
+      → (own ≡ capped_complexity (plus (operation_directives vs ds) (own_of_all 0 set)))
+      × (map seen_spread old.spreads.items ≡ map capped_reference (spreads_of_all 0 set))
+  gathers_operation opened begun old vs set own b v g e =
+      let count = variable_directive_count vs in
+      let both = gathers_both opened begun old _ _ _ _ v g in (
+        sum_counted own old.own (plus nothing (plus (only_directives count) (own_of_all 0 set))) counted
+            (directives_complexity ds) _ e (both.own_complexity 0 nothing b.no_field b.no_complexity) are
+            (last_of_operation count (directive_count ds) (own_of_all 0 set)),
+        both.own_spreads 0 b.no_field
+            ∙ ap (λ (ss : List NamedSpread). map seen_spread ss ++ map capped_reference (spreads_of_all 0 set))
+            b.no_spread,
+      )

@@ -1,29 +1,18 @@
 -- What selections in a row count and spread.
-use Rattle.std.proofs.Common.{◌≡◌, ◌<◌, ◌+◌, ℕ, List, [], ◌∷◌, ◌++◌, length, map, take, get_or, ap, sym, ◌∙◌}
+use Rattle.std.proofs.Common.{◌≡◌, ◌<◌, ◌+◌, ℕ, List, [], ◌∷◌, ◌++◌, length, take, get_or, ap, sym, ◌∙◌}
 use Rattle.std.proofs.Common.{append_assoc, append-nil, Option, Some, None}
 use Rattle.juniper.specs.declared.tree.ast.Selection.{Selection}
 use Rattle.std.specs.Global.{Vec}
 use Rattle.juniper.specs.View.{view_selection, view_selections, view_set}
 use Rattle.juniper_values.specs.Scalar.{Content}
-use Rattle.juniper_outlines.specs.Complexities.{plus, capped_complexity}
-use Rattle.juniper_complexity.specs.Gathered.{Gathers, GathersSelection, seen_spread, capped_reference}
-use Rattle.juniper_complexity.specs.Parts.{Reference, spreads_of, spreads_of_optional, spreads_of_all}
+use Rattle.juniper_outlines.specs.Complexities.{plus}
+use Rattle.juniper_complexity.specs.Gathered.{Gathers, GathersSelection}
+use Rattle.juniper_complexity.specs.Parts.{spreads_of, spreads_of_optional, spreads_of_all}
 use Rattle.juniper_complexity.specs.device.BySpreads.{own_of, own_of_optional, own_of_all}
-use Rattle.juniper_outlines.specs.declared.complexity.Complexity.{Complexity}
 use Rattle.juniper_complexity.specs.declared.outline_builder.OutlineBuilder.{OutlineBuilder}
 use Rattle.juniper_complexity.proofs.Algebra.{plus_assoc, plus_nothing, nothing_plus}
 use Rattle.juniper_outlines.proofs.Public.{take_next}
-use Rattle.juniper_complexity.proofs.OutlineBuilders.{gathers_none, gathers_both}
-
-gathers_same : (old new : OutlineBuilder) (own own_too : ℕ → Complexity) (spreads spreads_too : ℕ → List Reference)
-    → ((l : ℕ) → own_too l ≡ own l) → ((l : ℕ) → spreads_too l ≡ spreads l) → Gathers old new own spreads
-    → Gathers old new own_too spreads_too
-gathers_same old new own own_too spreads spreads_too e f g = record {
-  own_complexity = λ l x k h. g.own_complexity l x k h ∙ ap (λ y. capped_complexity (plus x y)) (sym (e l));
-  own_spreads = λ l k. g.own_spreads l k
-      ∙ ap (λ y. map seen_spread old.spreads.items ++ map capped_reference y) (sym (f l));
-  same_level = g.same_level;
-}
+use Rattle.juniper_complexity.proofs.OutlineBuilders.{gathers_none, gathers_both, gathers_same}
 
 module _ {S : Type 0} (content : S → Content) where
   -- the selections of a field, if it has some

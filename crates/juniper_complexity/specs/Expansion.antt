@@ -8,16 +8,18 @@ use Rattle.graphql_grammar.specs.Tree.{Arguments, Variables, Directives, Selecti
 use Rattle.graphql_grammar.specs.Tree.{selection, absent, present, Definition}
 use Rattle.graphql_grammar.specs.declared.operation.OperationType.{OperationType}
 use Rattle.juniper_outlines.specs.Complexities.{nothing, plus, in_a_field}
-use Rattle.juniper_complexity.specs.Parts.{directives_complexity, field_complexity, fragment_at}
+use Rattle.juniper_complexity.specs.Parts.{directives_complexity, operation_directives, field_complexity}
+use Rattle.juniper_complexity.specs.Parts.{fragment_at}
 use Rattle.juniper_outlines.specs.declared.complexity.Complexity.{Complexity}
 
 module _ {C : Type 0} (document : List (Definition C)) where
   mutual
-    -- A definition has this complexity: that of its own directives and of its selections.
+    -- A definition has this complexity: that of its directives and of its selections. The directives of an operation's
+    -- variable definitions are the operation's.
     pub data DefinitionHas : Definition C → Complexity → Type 0 where
       operation : {a : Complexity} (type : OperationType) (name : Option Word) (variables : Option (Variables C))
           (ds : Directives C) (ss : Selections C) (span : Span) → SelectionsHave ss a
-          → DefinitionHas (tree.Operation type name variables ds ss span) (plus (directives_complexity ds) a)
+          → DefinitionHas (tree.Operation type name variables ds ss span) (plus (operation_directives variables ds) a)
       fragment : {a : Complexity} (name condition : Word) (ds : Directives C) (ss : Selections C) (span : Span)
           → SelectionsHave ss a
           → DefinitionHas (tree.Fragment name condition ds ss span) (plus (directives_complexity ds) a)

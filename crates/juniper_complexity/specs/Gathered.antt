@@ -3,7 +3,8 @@ use Rattle.std.specs.Prelude.{◌≡◌, ℕ, suc, List, [], ◌∷◌, ◌++◌
 use Rattle.std.specs.Str.{chars}
 use Rattle.graphql_grammar.specs.Tokens.{Text, Word}
 use Rattle.graphql_grammar.specs.Tree as tree
-use Rattle.graphql_grammar.specs.Tree.{Arguments, Directives, Variables, Selections, OptionalSelections, Definition}
+use Rattle.graphql_grammar.specs.Tree.{Arguments, Directives, VariableDefinition, Variables, Selections}
+use Rattle.graphql_grammar.specs.Tree.{OptionalSelections, Definition}
 use Rattle.juniper.specs.Building.{BuildsList, BuildsOptional, BuildsOptionalSet, BuildsSet, Opened, a_list, an_object}
 use Rattle.juniper.specs.Building.{an_object_field, some_arguments, an_argument, a_directive, a_field, a_spread}
 use Rattle.juniper.specs.Building.{an_inline_fragment, some_variables, a_variable, an_operation, a_fragment}
@@ -14,7 +15,8 @@ use Rattle.juniper_outlines.specs.Sums.{at_level}
 use Rattle.juniper_outlines.specs.declared.complexity.Complexity.{Complexity}
 use Rattle.juniper_outlines.specs.declared.outline.DefinitionOutline.{DefinitionOutline}
 use Rattle.juniper_outlines.specs.declared.outline.NamedSpread.{NamedSpread}
-use Rattle.juniper_complexity.specs.Parts.{Reference, field_complexity, spreads_of, spreads_of_definition}
+use Rattle.juniper_complexity.specs.Parts.{Reference, directives_complexity, directives_of_variables, field_complexity}
+use Rattle.juniper_complexity.specs.Parts.{only_directives, spreads_of, spreads_of_definition}
 use Rattle.juniper_complexity.specs.device.BySpreads.{own_of, own_of_definition}
 use Rattle.juniper_complexity.specs.declared.outline_builder.DefinitionOutlines.{DefinitionOutlines}
 use Rattle.juniper_complexity.specs.declared.outline_builder.OutlineBuilder.{OutlineBuilder}
@@ -115,8 +117,7 @@ gathered parts = replicate parts.count tt
 -- the complexity of so many directives
 abbrev pub counted_directives : Option PartCount → Complexity
 counted_directives None = nothing
-counted_directives (Some parts) =
-    record { fields = 0; aliases = 0; directives = parts.count; root_fields = 0; depth = 0 }
+counted_directives (Some parts) = only_directives parts.count
 
 abbrev pub KeepsArguments : OutlineBuilder → OutlineBuilder → Option (Unit {0}) → Option (Arguments Content) → Type 0
 KeepsArguments = BuildsOptional Keeps
@@ -124,8 +125,12 @@ KeepsArguments = BuildsOptional Keeps
 abbrev pub KeepsDirectives : OutlineBuilder → OutlineBuilder → Option PartCount → Directives Content → Type 0
 KeepsDirectives = BuildsOptional (BuildsList Keeps gathered)
 
-abbrev pub KeepsVariables : OutlineBuilder → OutlineBuilder → Option (Unit {0}) → Option (Variables Content) → Type 0
-KeepsVariables = BuildsOptional Keeps
+-- the directives of a variable definition are counted
+abbrev pub GathersVariable : OutlineBuilder → OutlineBuilder → Unit {0} → VariableDefinition Content → Type 0
+GathersVariable old new x v = Gathers old new (λ _. directives_complexity v.directives) (λ _. [])
+
+abbrev pub GathersVariables : OutlineBuilder → OutlineBuilder → Unit {0} → Variables Content → Type 0
+GathersVariables old new x vs = Gathers old new (λ _. only_directives (directives_of_variables vs.item)) (λ _. [])
 
 abbrev pub GathersSet : OutlineBuilder → OutlineBuilder → PartCount → Selections Content → Type 0
 GathersSet = BuildsSet GathersSelection gathered

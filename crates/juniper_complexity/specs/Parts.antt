@@ -1,12 +1,12 @@
 -- The parts of a document on which a complexity rests: counts, spreads, and the fragments of names. C is the type of a
 -- scalar's content.
 use Rattle.std.specs.List.{position_from}
-use Rattle.std.specs.Prelude.{ℕ, suc, Bool, true, false, List, [], ◌∷◌, ◌++◌, length, Option, Some, None}
+use Rattle.std.specs.Prelude.{ℕ, suc, ◌+◌, Bool, true, false, List, [], ◌∷◌, ◌++◌, length, Option, Some, None}
 use Rattle.graphql_lexical.specs.Place.{Span}
 use Rattle.graphql_grammar.specs.Tokens.{Text, Word}
 use Rattle.graphql_grammar.specs.Tree as tree
-use Rattle.graphql_grammar.specs.Tree.{Directives, Selection, Selections, no_selections, selection, OptionalSelections}
-use Rattle.graphql_grammar.specs.Tree.{absent, present, Definition}
+use Rattle.graphql_grammar.specs.Tree.{Directives, VariableDefinition, Variables, Selection, Selections, no_selections}
+use Rattle.graphql_grammar.specs.Tree.{selection, OptionalSelections, absent, present, Definition}
 use Rattle.juniper_values.specs.Text.{same_text}
 use Rattle.juniper_outlines.specs.declared.complexity.Complexity.{Complexity}
 
@@ -16,10 +16,24 @@ abbrev pub directive_count : {C : Type 0} → Directives C → ℕ
 directive_count None = 0
 directive_count (Some ds) = length ds
 
--- of directives
+-- of so many directives
+abbrev pub only_directives : ℕ → Complexity
+only_directives n = record { fields = 0; aliases = 0; directives = n; root_fields = 0; depth = 0 }
+
 abbrev pub directives_complexity : {C : Type 0} → Directives C → Complexity
-directives_complexity ds =
-    record { fields = 0; aliases = 0; directives = directive_count ds; root_fields = 0; depth = 0 }
+directives_complexity ds = only_directives (directive_count ds)
+
+abbrev pub directives_of_variables : {C : Type 0} → List (VariableDefinition C) → ℕ
+directives_of_variables [] = 0
+directives_of_variables (v ∷ vs) = directive_count v.directives + directives_of_variables vs
+
+abbrev pub variable_directive_count : {C : Type 0} → Option (Variables C) → ℕ
+variable_directive_count None = 0
+variable_directive_count (Some vs) = directives_of_variables vs.item
+
+-- of the directives of an operation: those of its variable definitions, and its own
+abbrev pub operation_directives : {C : Type 0} → Option (Variables C) → Directives C → Complexity
+operation_directives variables ds = only_directives (variable_directive_count variables + directive_count ds)
 
 abbrev pub alias_count : Option Word → ℕ
 alias_count None = 0

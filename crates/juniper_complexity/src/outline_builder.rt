@@ -200,9 +200,9 @@ impl<'a> OutlineBuilder<'a> {
         }
     }
 
-    /// Ends an inline fragment, and counts its directives.
+    /// Counts the directives of an inline fragment, at its end, or of a variable definition.
     #[inline(always)]
-    pub fn end_inline_fragment(&mut self, directives: &Option<PartCount>)
+    pub fn count_directives(&mut self, directives: &Option<PartCount>)
         ensures own { self.new.own ≡ plus_capped self.old.own (capped_complexity (counted_directives directives.now)) }
         ensures spreads { self.new.spreads ≡ self.old.spreads }
         ensures level { self.new.level ≡ self.old.level }

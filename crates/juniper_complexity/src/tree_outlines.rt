@@ -1,8 +1,8 @@
 //! The outlines of a tree's definitions, gathered as they are while a document is parsed.
-ghost use Rattle.std.specs.Prelude.{◌≡◌, OnOk, IfOk, map};
-ghost use Rattle.juniper.specs.View.{view_directives, view_selection, view_selections, view_field, view_inline, view_definition};
+ghost use Rattle.std.specs.Prelude.{◌≡◌, [], OnOk, IfOk, map, option_map};
+ghost use Rattle.juniper.specs.View.{view_directives, view_variable, view_variables, view_selection, view_selections, view_field, view_inline, view_definition};
 ghost use Rattle.juniper_complexity.specs.Gathered.{AreGathered, Gathers, GathersSelection, IsGathered, counted_directives};
-ghost use Rattle.juniper_complexity.specs.Parts.{directives_complexity, spreads_of_all};
+ghost use Rattle.juniper_complexity.specs.Parts.{directives_complexity, directives_of_variables, only_directives, spreads_of_all, variable_directive_count};
 ghost use Rattle.juniper_complexity.specs.device.BySpreads.{own_of_all};
 ghost use Rattle.juniper_complexity.specs.device.Outlines.{view_spread};
 
@@ -10,6 +10,7 @@ use crate::outline_builder::{OutlineBuilder, PartCount};
 use juniper::laws::selections_are_seen;
 use juniper::{
     Definition, Directive, Field, FragmentSpread, InlineFragment, ScalarValue, Selection, Spanning,
+    VariableDefinition, VariableDefinitions,
 };
 use juniper_outlines::DefinitionOutline;
 use std::alloc::{AllocError, Global};
@@ -79,7 +80,7 @@ fn gather_inline_fragment<'a, S: ScalarValue>(
     ensures { OnOk result (GathersSelection builder.old builder.new tt (view_inline S.content fragment.now)) }
 {
     gather_selections(builder, &fragment.item.selection_set)?;
-    builder.end_inline_fragment(&count_of(&fragment.item.directives));
+    builder.count_directives(&count_of(&fragment.item.directives));
     Ok(())
 }
 
@@ -96,6 +97,30 @@ fn gather_selections<'a, S: ScalarValue>(
     Ok(())
 }
 
+// Counts the directives of variable definitions.
+fn gather_variables<'a, S: ScalarValue>(
+    builder: &mut OutlineBuilder<'a>,
+    variables: &Option<Spanning<VariableDefinitions<'a, S>>>,
+)
+    ensures { Gathers builder.old builder.new (λ _. only_directives (variable_directive_count (option_map (view_variables S.content) variables.now))) (λ _. []) }
+{
+    match variables {
+        None => {}
+        Some(variables) => gather_each_variable(builder, &variables.item.items),
+    }
+}
+
+fn gather_each_variable<'a, S: ScalarValue>(
+    builder: &mut OutlineBuilder<'a>,
+    variables: &[(Spanning<&'a str>, VariableDefinition<'a, S>)],
+)
+    ensures { Gathers builder.old builder.new (λ _. only_directives (directives_of_variables (map (view_variable S.content) variables.now))) (λ _. []) }
+{
+    for variable in variables {
+        builder.count_directives(&count_of(&variable.1.directives));
+    }
+}
+
 fn gather_definition<'a, S: ScalarValue>(
     builder: &mut OutlineBuilder<'a>,
     definition: &Definition<'a, S>,
@@ -105,6 +130,7 @@ fn gather_definition<'a, S: ScalarValue>(
     builder.begin();
     match definition {
         Definition::Operation(operation) => {
+            gather_variables(builder, &operation.item.variable_definitions);
             gather_selections(builder, &operation.item.selection_set)?;
             Ok(builder.end(None, &count_of(&operation.item.directives), 0))
         }

@@ -24,7 +24,9 @@ use Rattle.juniper_values.specs.Default.{default_reading, string_reading}
 use Rattle.juniper_values.specs.Scalar.{Reading}
 use Rattle.juniper_flat.specs.Answers.{scalars as all_scalars}
 use Rattle.juniper_flat.specs.Faults.{written_fault, lexical_reason, error_reason}
-use Rattle.juniper_flat.specs.Messages.{ShowsText, shown_bytes, IsOfGrammar}
+use Rattle.juniper_flat.specs.Messages.{ShowsText, shown_bytes, IsOfGrammar, AreWords}
+use Rattle.juniper_flat.specs.Messages.{refused as is_refused, too_deep as is_deep, too_many as is_many}
+use Rattle.juniper_flat.specs.Messages.{unknown as is_unknown, cycle as is_cycle}
 use Rattle.juniper_flat.specs.Scalars.{scalar_reading, int_reading}
 use Rattle.juniper_flat.specs.declared.fault.Fault.{Fault}
 use Rattle.juniper_flat.proofs.Shown.{TokenStands, token_in_source, escape_in_source, bytes_between, bytes_within, middle_scalars, middle_utf8, scalars_back}
@@ -349,3 +351,20 @@ some_words (errors.UnexpectedToken t) h = some_front (codes "Unexpected ") (quot
 some_words errors.UnexpectedEndOfFile h = some_front (codes "Unexpected end of input") [] (omega arith)
 some_words (errors.Lexical e) h = lexical_words e
 some_words (errors.ExpectedScalar t) h = absurd h
+
+-- What the error of a refusal says are the words of a fault of no limit and no spread.
+pub are_words : (source : List ℕ) (fault : Fault) (e : Error) → fault.kind ≢ 3 → fault.kind ≢ 4 → fault.kind ≢ 6
+    → fault.kind ≢ 7
+    → ((found : errors.Fault) → IsRefusal all_scalars (chars source) found → fault ≡ written_fault (chars source) found
+    → e ≡ found.error)
+    → AreWords source fault (encode_utf8_all (error_text e))
+are_words source fault e deep many no_fragment in_itself exact _ (is_refused r f) =
+    ap (λ (x : Error). encode_utf8_all (error_text x)) (exact _ r f)
+are_words source fault e deep many no_fragment in_itself exact _ (is_deep f) =
+    absurd (deep (ap (λ (x : Fault). x.kind) f))
+are_words source fault e deep many no_fragment in_itself exact _ (is_many f) =
+    absurd (many (ap (λ (x : Fault). x.kind) f))
+are_words source fault e deep many no_fragment in_itself exact _ (is_unknown f) =
+    absurd (no_fragment (ap (λ (x : Fault). x.kind) f))
+are_words source fault e deep many no_fragment in_itself exact _ (is_cycle f) =
+    absurd (in_itself (ap (λ (x : Fault). x.kind) f))

@@ -1,15 +1,16 @@
 -- Nodes that are written and outlines that are gathered in one parse.
 use Rattle.std.specs.Prelude.{◌≡◌, ◌+◌, ℕ, List, [], ◌∷◌, length, Option}
 use Rattle.graphql_grammar.specs.Tokens.{Located}
-use Rattle.graphql_grammar.specs.Tree.{Value, Arguments, Directives, Variables, Selection, Selections}
-use Rattle.graphql_grammar.specs.Tree.{OptionalSelections}
+use Rattle.graphql_grammar.specs.Tree.{Value, Arguments, Directives, VariableDefinition, Variables, Selection}
+use Rattle.graphql_grammar.specs.Tree.{Selections, OptionalSelections}
 use Rattle.graphql_grammar.specs.Tree.{Definition}
-use Rattle.graphql_nodes.specs.Nodes.{Node, value_nodes, arguments_nodes, directive_nodes, variables_nodes}
-use Rattle.graphql_nodes.specs.Nodes.{selection_nodes}
+use Rattle.graphql_nodes.specs.Nodes.{Node, value_nodes, arguments_nodes, directive_nodes, variable_nodes}
+use Rattle.graphql_nodes.specs.Nodes.{variables_nodes, selection_nodes}
 use Rattle.graphql_nodes.specs.Nodes.{definition_nodes, document_nodes}
 use Rattle.juniper.specs.Building.{BuildsList, BuildsOptional, BuildsOptionalSet, BuildsSet, Opened}
 use Rattle.juniper_complexity.specs.Gathered as outlines
-use Rattle.juniper_complexity.specs.Gathered.{GathersSelection, IsGathered, AreGathered, gathered}
+use Rattle.juniper_complexity.specs.Gathered.{GathersVariable, GathersVariables, GathersSelection, IsGathered}
+use Rattle.juniper_complexity.specs.Gathered.{AreGathered, gathered}
 use Rattle.juniper_outlines.specs.declared.outline.DefinitionOutline.{DefinitionOutline}
 use Rattle.juniper_complexity.specs.declared.outline_builder.PartCount.{PartCount}
 use Rattle.juniper_values.specs.Scalar.{Content}
@@ -29,6 +30,15 @@ OpensBoth old new part what =
 -- the nodes of a part without selections were written
 abbrev pub AddsPart : {X A : Type 0} → (A → List (Node Content)) → NodesAndOutlines → NodesAndOutlines → X → A → Type 0
 AddsPart nodes old new x part = Adds old.nodes new.nodes (nodes part) × (old.outlines ≡ new.outlines)
+
+-- the nodes of a variable definition were written, and its directives counted
+abbrev pub AddsVariable : NodesAndOutlines → NodesAndOutlines → Unit {0} → VariableDefinition Content → Type 0
+AddsVariable old new x v =
+    Adds old.nodes new.nodes (variable_nodes v) × GathersVariable old.outlines new.outlines x v
+
+abbrev pub AddsVariableList : NodesAndOutlines → NodesAndOutlines → Unit {0} → Variables Content → Type 0
+AddsVariableList old new x vs =
+    Adds old.nodes new.nodes (variables_nodes vs) × GathersVariables old.outlines new.outlines x vs
 
 abbrev pub AddsSelection : NodesAndOutlines → NodesAndOutlines → Unit {0} → Selection Content → Type 0
 AddsSelection old new x s =
@@ -52,7 +62,7 @@ abbrev pub AddsDirectives : NodesAndOutlines → NodesAndOutlines → Option Par
 AddsDirectives = BuildsOptional (BuildsList (AddsPart directive_nodes) gathered)
 
 abbrev pub AddsVariables : NodesAndOutlines → NodesAndOutlines → Option (Unit {0}) → Option (Variables Content) → Type 0
-AddsVariables = BuildsOptional (AddsPart variables_nodes)
+AddsVariables = BuildsOptional AddsVariableList
 
 abbrev pub AddsSet : NodesAndOutlines → NodesAndOutlines → PartCount → Selections Content → Type 0
 AddsSet = BuildsSet AddsSelection gathered

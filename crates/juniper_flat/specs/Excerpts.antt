@@ -7,6 +7,7 @@ use Rattle.graphql_lexical.specs.Characters.{Text, is_line_feed}
 use Rattle.graphql_lexical.specs.Place.{Place, position_after}
 use Rattle.juniper_flat.specs.Sources.{IsUnread}
 use Rattle.juniper_flat.specs.declared.source.Unread.{Unread}
+use Rattle.juniper_flat.specs.declared.source.Unread.TheVariants as unread
 
 -- ---- which lines
 
@@ -135,4 +136,7 @@ abbrev pub ReturnsExcerpt : List ℕ → ℕ → Result (Option (String Global))
 ReturnsExcerpt source byte (Ok (Some lines)) = (length source < 2 ^ 32)
     × (IsUtf8 source × (IsBorder source byte × (string_bytes lines ≡ excerpt_bytes source byte)))
 ReturnsExcerpt source byte (Ok None) = (length source < 2 ^ 32) × (IsUtf8 source × ¬ IsBorder source byte)
-ReturnsExcerpt source byte (Err unread) = IsUnread source unread
+ReturnsExcerpt source byte (Err unread.OutOfMemory) =
+    (length source < 2 ^ 32) × (IsUtf8 source × IsBorder source byte)
+ReturnsExcerpt source byte (Err unread.NotUtf8) = IsUnread source unread.NotUtf8
+ReturnsExcerpt source byte (Err unread.TooLong) = IsUnread source unread.TooLong

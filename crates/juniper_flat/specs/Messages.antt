@@ -1,6 +1,7 @@
 -- The words of an error.
 use Rattle.std.specs.Prelude.{◌≡◌, ◌≢◌, ◌<◌, ◌≤◌, ◌-◌, ◌^◌, ◌⊎◌, ℕ, List, ◌++◌, take, drop, length, codes}
 use Rattle.std.specs.Prelude.{encode_utf8_all, IsUtf8, chars, Option, Some, None, Result, Ok, Err, String, string_bytes}
+use Rattle.std.specs.Char.{IsScalar}
 use Rattle.std.specs.declared.alloc.Global.{Global}
 use Rattle.graphql_lexical.specs.Characters.{Text}
 use Rattle.graphql_lexical.specs.Place.{Span}
@@ -12,6 +13,7 @@ use Rattle.juniper_flat.specs.Faults.{written_fault, deep_fault, many_fault, unk
 use Rattle.juniper_flat.specs.Sources.{IsUnread}
 use Rattle.juniper_flat.specs.declared.fault.Fault.{Fault}
 use Rattle.juniper_flat.specs.declared.source.Unread.{Unread}
+use Rattle.juniper_flat.specs.declared.source.Unread.TheVariants as unread
 
 -- Such an error of this source is given by calls, and these are its words, in UTF-8.
 pub data IsErrorOf (source : List ℕ) (fault : Fault) : List ℕ → Type 0 where
@@ -39,19 +41,6 @@ IsOfGrammar errors.UnexpectedEndOfFile = Unit {0}
 IsOfGrammar (errors.Lexical e) = Unit {0}
 IsOfGrammar (errors.ExpectedScalar t) = ⊥
 
--- an error in words, of which there are some, or why there are none
-abbrev pub ReturnsMessage : List ℕ → Fault → Result (Option (String Global)) Unread → Type 0
-ReturnsMessage source fault (Ok (Some message)) = (length source < 2 ^ 32)
-    × (IsUtf8 source × ((0 < length (string_bytes message)) × AreWords source fault (string_bytes message)))
-ReturnsMessage source fault (Ok None) = (length source < 2 ^ 32) × (IsUtf8 source × IsNoErrorOf source fault)
-ReturnsMessage source fault (Err unread) = IsUnread source unread
-
--- the statuses of `firthnapkin_message` and `firthnapkin_excerpt`
-abbrev pub IsWordsStatus : ℕ → Type 0
-IsWordsStatus n = (n ≡ 0) ⊎ (((2 ≤ n) × (n ≤ 3)) ⊎ (((6 ≤ n) × (n ≤ 7)) ⊎ (n ≡ 9)))
-
--- ---- how they are found
-
 -- the bytes of the source that the error shows
 abbrev pub shown_bytes : List ℕ → Fault → List ℕ
 shown_bytes source fault = take (fault.text_end - fault.text_start) (drop fault.text_start source)
@@ -60,6 +49,43 @@ shown_bytes source fault = take (fault.text_end - fault.text_start) (drop fault.
 abbrev pub ShowsText : List ℕ → Fault → Type 0
 ShowsText source fault =
     (fault.text_start ≤ fault.text_end) × ((fault.text_end ≤ length source) × IsUtf8 (shown_bytes source fault))
+
+-- A lexical error has words: of the character that it names, of the escape that it shows, or of neither.
+pub data HasLexicalWords (source : List ℕ) (fault : Fault) : Type 0 where
+  of_character : (fault.detail ≡ 1) ⊎ ((fault.detail ≡ 2) ⊎ (fault.detail ≡ 4)) → IsScalar fault.character
+      → HasLexicalWords source fault
+  of_escape : fault.detail ≡ 5 → ShowsText source fault → HasLexicalWords source fault
+  of_string : fault.detail ≡ 3 → HasLexicalWords source fault
+  of_neither : (fault.detail ≡ 6) ⊎ (fault.detail ≡ 7) → HasLexicalWords source fault
+
+-- An error has words: its kind is one that calls report, and what its words show is there.
+pub data HasWords (source : List ℕ) (fault : Fault) : Type 0 where
+  of_token : fault.kind ≡ 0 → ShowsText source fault → HasWords source fault
+  of_end : fault.kind ≡ 1 → HasWords source fault
+  of_lexical : fault.kind ≡ 2 → HasLexicalWords source fault → HasWords source fault
+  of_limit : (fault.kind ≡ 3) ⊎ (fault.kind ≡ 4) → HasWords source fault
+  of_spread : (fault.kind ≡ 6) ⊎ (fault.kind ≡ 7) → HasWords source fault
+
+-- an error in words, of which there are some, or why there are none
+abbrev pub ReturnsMessage : List ℕ → Fault → Result (Option (String Global)) Unread → Type 0
+ReturnsMessage source fault (Ok (Some message)) = (length source < 2 ^ 32)
+    × (IsUtf8 source × ((0 < length (string_bytes message)) × AreWords source fault (string_bytes message)))
+ReturnsMessage source fault (Ok None) = (length source < 2 ^ 32) × (IsUtf8 source × IsNoErrorOf source fault)
+ReturnsMessage source fault (Err unread) = IsUnread source unread
+
+-- there are words exactly if the error has some, and memory runs out only for these
+abbrev pub ReturnsItsWords : List ℕ → Fault → Result (Option (String Global)) Unread → Type 0
+ReturnsItsWords source fault (Ok (Some message)) = HasWords source fault
+ReturnsItsWords source fault (Ok None) = ¬ HasWords source fault
+ReturnsItsWords source fault (Err unread.OutOfMemory) = HasWords source fault
+ReturnsItsWords source fault (Err unread.NotUtf8) = Unit {0}
+ReturnsItsWords source fault (Err unread.TooLong) = Unit {0}
+
+-- the statuses of `firthnapkin_message` and `firthnapkin_excerpt`
+abbrev pub IsWordsStatus : ℕ → Type 0
+IsWordsStatus n = (n ≡ 0) ⊎ (((2 ≤ n) × (n ≤ 3)) ⊎ (((6 ≤ n) × (n ≤ 7)) ⊎ (n ≡ 9)))
+
+-- ---- how they are found
 
 -- The text is a String's token, and this stands between its quotes.
 abbrev pub IsQuoted : Text → Text → Type 0

@@ -5,6 +5,7 @@ use Rattle.juniper_tokens.specs.Counting.{HasFew, HasMore}
 use Rattle.juniper_flat.specs.Faults.{many_fault}
 use Rattle.juniper_flat.specs.Sources.{IsUnread}
 use Rattle.juniper_flat.specs.declared.source.Unread.{Unread}
+use Rattle.juniper_flat.specs.declared.source.Unread.TheVariants as unread
 use Rattle.juniper_flat.specs.declared.count.Counted.{Counted}
 use Rattle.juniper_flat.specs.declared.count.Counted.TheVariants as counted
 
@@ -12,9 +13,12 @@ use Rattle.juniper_flat.specs.declared.count.Counted.TheVariants as counted
 abbrev pub IsCountStatus : ℕ → Type 0
 IsCountStatus n = (n ≡ 0) ⊎ ((n ≡ 2) ⊎ ((n ≡ 3) ⊎ ((n ≡ 5) ⊎ (n ≡ 7))))
 
--- whether a source has more tokens than this, or why nothing is known of it
+-- whether a source has more tokens than this, or why nothing is said of it; if memory ran out, it has more
 abbrev pub ReturnsCounted : List ℕ → ℕ → Result Counted Unread → Type 0
 ReturnsCounted source most (Ok counted.Few) = (length source < 2 ^ 32) × IsUtf8 source × HasFew [] (chars source) most
 ReturnsCounted source most (Ok (counted.Many fault)) = (length source < 2 ^ 32) × IsUtf8 source
     × ((span : Span) × HasMore [] (chars source) most span × (fault ≡ many_fault (chars source) span))
-ReturnsCounted source most (Err unread) = IsUnread source unread
+ReturnsCounted source most (Err unread.OutOfMemory) = (length source < 2 ^ 32) × IsUtf8 source
+    × ((span : Span) × HasMore [] (chars source) most span)
+ReturnsCounted source most (Err unread.NotUtf8) = IsUnread source unread.NotUtf8
+ReturnsCounted source most (Err unread.TooLong) = IsUnread source unread.TooLong

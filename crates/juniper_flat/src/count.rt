@@ -10,7 +10,7 @@ use crate::byte_table::ByteTable;
 use crate::fault::{Fault, many_fault};
 use crate::source::{Unread, text_of};
 use juniper::Span;
-use juniper_tokens::{Kind, LexFailure, Lexer};
+use juniper_tokens::first_token_past;
 use std::alloc::{AllocError, Global};
 
 /// Whether a source has more tokens than a limit.
@@ -23,8 +23,8 @@ pub enum Counted {
 }
 
 /// Returns whether a source has more tokens than the limit, besides its end. The source is read up to the first token
-/// past the limit, or to its first lexical error. Nothing is known if the bytes aren't UTF-8 or are 4 GiB or more, or
-/// if memory runs out.
+/// past the limit, or to its first lexical error. Nothing is known if the bytes aren't UTF-8 or are 4 GiB or more. Memory
+/// is taken for the position of the fault alone, and if it runs out, nothing is known.
 pub fn count_of(alloc: Global, source: &[u8], most: u32) -> Result<Counted, Unread>
     ensures { ReturnsCounted source.now most result }
 {
@@ -35,24 +35,9 @@ fn count_of_text(alloc: Global, text: &str, most: u32) -> Result<Counted, Unread
     requires { length text.now < 2 ^ 32 }
     ensures { ReturnsCounted text.now most result }
 {
-    let mut lexer = Lexer::new(alloc, text);
-    let mut left = most;
-    loop {
-        match lexer.next() {
-            Some(Ok(token)) => {
-                if token.item.kind() == Kind::EndOfFile {
-                    return Ok(Counted::Few);
-                }
-                if left == 0 {
-                    return Ok(Counted::Many(reported(alloc, text, token.span)?));
-                }
-                left -= 1;
-            }
-            // Nothing after an error is a token.
-            Some(Err(LexFailure::Fault(_fault))) => return Ok(Counted::Few),
-            Some(Err(LexFailure::Memory)) => return Err(Unread::OutOfMemory),
-            None => unreachable!(),
-        }
+    match first_token_past(alloc, text, most as usize) {
+        None => Ok(Counted::Few),
+        Some(span) => Ok(Counted::Many(reported(alloc, text, span)?)),
     }
 }
 

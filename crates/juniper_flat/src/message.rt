@@ -1,5 +1,5 @@
 //! An error of a source, in words.
-ghost use Rattle.std.specs.Prelude.{◌≡◌, ◌≢◌, ◌<◌, ◌^◌, true, false, get_or, length, IfOk, MatchOption, SomeIff, string_bytes, encode_utf8_all};
+ghost use Rattle.std.specs.Prelude.{◌≡◌, ◌≢◌, ◌<◌, ◌≤◌, ◌^◌, true, false, get_or, length, IfErr, IfOk, MatchOption, SomeIff, string_bytes, encode_utf8_all};
 ghost use Rattle.std.specs.Char.{IsScalar};
 ghost use Rattle.std.specs.Str.{chars, IsUtf8};
 ghost use Rattle.graphql_lexical.specs.Characters.{Text};
@@ -14,7 +14,7 @@ ghost use Rattle.juniper_tokens.specs.Errors.{view_error, view_lexer_error};
 ghost use Rattle.juniper.specs.Promise.{IsRefusal, lexical_fault};
 ghost use Rattle.juniper_flat.specs.Answers.{scalars};
 ghost use Rattle.juniper_flat.specs.Faults.{written_fault};
-ghost use Rattle.juniper_flat.specs.Messages.{ReturnsMessage, IsOfGrammar, ShowsText, shown_bytes, IsQuoted};
+ghost use Rattle.juniper_flat.specs.Messages.{HasLexicalWords, HasWords, ReturnsMessage, ReturnsItsWords, IsOfGrammar, ShowsText, shown_bytes, IsQuoted};
 
 use crate::fault::{
     FRAGMENT_CYCLE, Fault, INVALID_NUMBER, LEXICAL, TOO_DEEP, TOO_MANY_TOKENS,
@@ -31,14 +31,16 @@ use std::alloc::{AllocError, Global};
 /// has, or the bytes that it shows aren't UTF-8 or aren't in the source. Nothing is known if the bytes of the source
 /// aren't UTF-8 or are 4 GiB or more, or if memory runs out. The source isn't parsed.
 pub fn message_of(alloc: Global, source: &[u8], fault: &Fault) -> Result<Option<String>, Unread>
-    ensures { ReturnsMessage source.now fault.now result }
+    ensures message { ReturnsMessage source.now fault.now result }
+    ensures exact { ReturnsItsWords source.now fault.now result }
 {
     message_of_text(alloc, text_of(source)?, fault)
 }
 
 fn message_of_text(alloc: Global, text: &str, fault: &Fault) -> Result<Option<String>, Unread>
     requires { length text.now < 2 ^ 32 }
-    ensures { ReturnsMessage text.now fault.now result }
+    ensures message { ReturnsMessage text.now fault.now result }
+    ensures exact { ReturnsItsWords text.now fault.now result }
 {
     if fault.kind == TOO_DEEP {
         return Ok(Some(String::from_str(alloc, "Too deeply nested")?));
@@ -62,6 +64,8 @@ fn message_of_text(alloc: Global, text: &str, fault: &Fault) -> Result<Option<St
 fn error_of(alloc: Global, source: &str, fault: &Fault) -> Result<Option<ParseError>, AllocError>
     ensures exact { (found : errors.Fault) → IsRefusal scalars (chars source.now) found → fault.now ≡ written_fault (chars source.now) found → IfOk result (λ made. MatchOption made ⊥ (λ error. view_error error ≡ found.error)) }
     ensures own { IfOk result (λ made. MatchOption made (Unit {0}) (λ error. IsOfGrammar (view_error error))) }
+    ensures words { IfOk result (λ made. MatchOption made (fault.now.kind ≤ 2 → ¬ HasWords source.now fault.now) (λ _. HasWords source.now fault.now)) }
+    ensures memory { IfErr result (λ _. HasWords source.now fault.now) }
 {
     if fault.kind == UNEXPECTED_TOKEN {
         match text_shown(source, fault) {
@@ -85,7 +89,9 @@ fn lexical_error_of(
     source: &str,
     fault: &Fault,
 ) -> Result<Option<LexerError>, AllocError>
-    ensures { (error : kinds.LexicalError) (at : Place) → Breaks (chars source.now) error at → fault.now ≡ written_fault (chars source.now) (lexical_fault error at) → IfOk result (λ made. MatchOption made ⊥ (λ it. view_lexer_error it ≡ error)) }
+    ensures exact { (error : kinds.LexicalError) (at : Place) → Breaks (chars source.now) error at → fault.now ≡ written_fault (chars source.now) (lexical_fault error at) → IfOk result (λ made. MatchOption made ⊥ (λ it. view_lexer_error it ≡ error)) }
+    ensures words { IfOk result (λ made. MatchOption made (¬ HasLexicalWords source.now fault.now) (λ _. HasLexicalWords source.now fault.now)) }
+    ensures memory { IfErr result (λ _. HasLexicalWords source.now fault.now) }
 {
     match fault.detail {
         UNKNOWN_CHARACTER => Ok(named(fault).map(LexerError::UnknownCharacter)),
@@ -113,7 +119,7 @@ fn named(fault: &Fault) -> Option<char>
 
 // The text of the source that a fault shows, where its bytes are one.
 fn text_shown<'s>(source: &'s str, fault: &Fault) -> Option<&'s str>
-    ensures { MatchOption result (¬ ShowsText source.now fault.now) (λ text. text.now ≡ shown_bytes source.now fault.now) }
+    ensures { MatchOption result (¬ ShowsText source.now fault.now) (λ text. ShowsText source.now fault.now × (text.now ≡ shown_bytes source.now fault.now)) }
 {
     let (start, end) = (fault.text_start as usize, fault.text_end as usize);
     if end < start || source.len() < end {

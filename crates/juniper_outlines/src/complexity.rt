@@ -17,8 +17,8 @@ pub struct Complexity {
     pub fields: u64,
     /// The number of fields with an alias.
     pub aliases: u64,
-    /// The number of directives of the operation, of fields, of spreads and of inline fragments, and of a fragment's
-    /// definition each time that it is spread. Those of variable definitions aren't counted.
+    /// The number of directives of the operation and of its variable definitions, of fields, of spreads and of inline
+    /// fragments, and of a fragment's definition each time that it is spread.
     pub directives: u64,
     /// The number of fields that are in no other field.
     pub root_fields: u64,

@@ -6,7 +6,7 @@ use Rattle.graphql_grammar.specs.Tree.{present, Definition}
 use Rattle.juniper_outlines.specs.Complexities.{nothing, plus}
 use Rattle.juniper_outlines.specs.Sums.{at_level}
 use Rattle.juniper_complexity.specs.Parts.{Reference, directives_complexity, field_complexity, spreads_of_definition}
-use Rattle.juniper_complexity.specs.Parts.{fragment_at}
+use Rattle.juniper_complexity.specs.Parts.{fragment_at, operation_directives}
 use Rattle.juniper_outlines.specs.declared.complexity.Complexity.{Complexity}
 
 module _ {C : Type 0} where
@@ -31,7 +31,7 @@ module _ {C : Type 0} where
 
   abbrev pub own_of_definition : Definition C → Complexity
   own_of_definition (tree.Operation type name variables directives selections span) =
-      plus (directives_complexity directives) (own_of_all 0 selections)
+      plus (operation_directives variables directives) (own_of_all 0 selections)
   own_of_definition (tree.Fragment name condition directives selections span) =
       plus (directives_complexity directives) (own_of_all 0 selections)
 

@@ -3,12 +3,12 @@ ghost use Rattle.std.specs.Prelude.{◌≡◌, Option, option_map};
 ghost use Rattle.graphql_grammar.specs.Tokens.{Located};
 ghost use Rattle.graphql_grammar.specs.Tree as tree;
 ghost use Rattle.graphql_grammar.specs.Tree.{Value as Seen};
-ghost use Rattle.graphql_nodes.specs.Nodes.{directive_nodes, variable_nodes};
+ghost use Rattle.graphql_nodes.specs.Nodes.{directive_nodes};
 ghost use Rattle.juniper.specs.Building.{a_directive, a_field, a_spread, an_inline_fragment, a_variable, an_operation, a_fragment};
 ghost use Rattle.juniper.specs.View.{view_spanned_type, view_word};
 ghost use Rattle.juniper_tokens.specs.Spans.{view_span};
 ghost use Rattle.juniper_values.specs.Scalar.{Content};
-ghost use Rattle.juniper_flat.specs.Both.{OpensBoth, AddsArguments, AddsDefinition, AddsDirectives, AddsOptionalSet, AddsSelection, AddsSet, AddsValue, AddsVariables};
+ghost use Rattle.juniper_flat.specs.Both.{OpensBoth, AddsArguments, AddsDefinition, AddsDirectives, AddsOptionalSet, AddsSelection, AddsSet, AddsValue, AddsVariable, AddsVariables};
 ghost use Rattle.juniper_flat.specs.Builders.{Adds};
 ghost use Rattle.juniper_flat.specs.declared.builder.both.NodesAndOutlines.{NodesAndOutlines as Building};
 
@@ -33,8 +33,8 @@ pub(crate) struct NodesAndOutlines<'b> {
 }
 
 impl<'b> Builder<SourceScalar> for NodesAndOutlines<'b> {
-    ghost use Rattle.graphql_nodes.specs.Nodes.{value_nodes, argument_nodes, arguments_nodes, directive_nodes, variable_nodes, variables_nodes};
-    ghost use Rattle.juniper_flat.specs.Both.{OpensBoth, AddsPart, AddsSelection, AddsDefinition};
+    ghost use Rattle.graphql_nodes.specs.Nodes.{value_nodes, argument_nodes, arguments_nodes, directive_nodes};
+    ghost use Rattle.juniper_flat.specs.Both.{OpensBoth, AddsPart, AddsVariable, AddsVariableList, AddsSelection, AddsDefinition};
     ghost use Rattle.juniper_flat.specs.Builders.{field_nodes};
 
     type Name = &'b str;
@@ -89,9 +89,9 @@ impl<'b> Builder<SourceScalar> for NodesAndOutlines<'b> {
 
     ghost builds_selection = { AddsSelection };
 
-    ghost builds_variable = { AddsPart variable_nodes };
+    ghost builds_variable = { AddsVariable };
 
-    ghost builds_variables = { AddsPart variables_nodes };
+    ghost builds_variables = { AddsVariableList };
 
     ghost builds_definition = { AddsDefinition };
 
@@ -278,7 +278,7 @@ impl<'b> Builder<SourceScalar> for NodesAndOutlines<'b> {
     {
         self.nodes
             .inline_fragment(part.node, type_condition, directives, selection_set, span);
-        self.outlines.end_inline_fragment(&directives);
+        self.outlines.count_directives(&directives);
     }
 
     #[inline(always)]
@@ -311,10 +311,11 @@ impl<'b> Builder<SourceScalar> for NodesAndOutlines<'b> {
         default_value: Option<()>,
         directives: Option<PartCount>,
     )
-        ensures { (first opened with_default : Building) (v : Option (Located (Seen Content))) (ds : tree.Directives Content) → OpensBoth first opened part (a_variable (view_word name.now) (view_spanned_type var_type.entry)) → AddsValue opened with_default default_value v → AddsDirectives with_default self.old directives ds → Adds first.nodes self.new.nodes (variable_nodes (record { name = view_word name.now; of_type = view_spanned_type var_type.entry; default = v; directives = ds })) × (first.outlines ≡ self.new.outlines) }
+        ensures { (first opened with_default : Building) (v : Option (Located (Seen Content))) (ds : tree.Directives Content) → OpensBoth first opened part (a_variable (view_word name.now) (view_spanned_type var_type.entry)) → AddsValue opened with_default default_value v → AddsDirectives with_default self.old directives ds → AddsVariable first self.new tt (record { name = view_word name.now; of_type = view_spanned_type var_type.entry; default = v; directives = ds }) }
     {
         self.nodes
             .variable_definition(part.node, name, var_type, default_value, directives);
+        self.outlines.count_directives(&directives);
     }
 
     #[inline(always)]

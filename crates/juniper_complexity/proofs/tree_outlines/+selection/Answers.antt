@@ -33,10 +33,10 @@ gather_inline_fragment-returns g t c =
     let content = g.S.ParseScalarValue.content in
     let f = c.args.fragment.now in
     gathers_inline (counted_directives c.count_of.result) (view_directives content f.item.directives) c.count_of.ensures
-    c.args.builder.now c.gather_selections.new.builder c.end_inline_fragment.new.self _
+    c.args.builder.now c.gather_selections.new.builder c.count_directives.new.self _
     (view_selections content f.item.selection_set.items) _
-    (rw c.deref.ensures.value at c.in_ok-gather_selections.ensures) c.end_inline_fragment.ensures.own
-    c.end_inline_fragment.ensures.spreads c.end_inline_fragment.ensures.level
+    (rw c.deref.ensures.value at c.in_ok-gather_selections.ensures) c.count_directives.ensures.own
+    c.count_directives.ensures.spreads c.count_directives.ensures.level
 
 pub gather_selections-loop-selection-init : goal.gather_selections-loop-selection-init
 gather_selections-loop-selection-init g t c =

@@ -15,7 +15,7 @@ returns-in_ok-shown_token-in-Some-clause-exact c = λ found r f.
     let fault = c.args.fault.now in
     let it = tells_token (chars source) fault found (refusal_told (chars source) found r) f c.if-fault-eq-UNEXPECTED_TOKEN.true in
     let whole = it.stands.1 in
-    let same = token_characters source fault c.in-Some.written.now whole (token_shown source c.utf8.source fault found.error it) c.in-Some.ensures in
+    let same = token_characters source fault c.in-Some.written.now whole (token_shown source c.utf8.source fault found.error it) c.in-Some.ensures.1 in
     let spelled = subst (λ (t : Text). Spells t it.token.kind it.token.text) (sym same) (it.stands.6 it.other) in
     let bytes = c.in_ok-shown_token-in-Some.ensures it.token.kind it.token.text spelled in
     let text = c.in_ok-shown_token-in-Some.field-0 in
@@ -34,14 +34,14 @@ pub returns-in-Some-2-clause-exact : goal.returns-in-Some-2-clause-exact
 returns-in-Some-2-clause-exact c = λ found r f.
     let source = c.args.source.now in
     let it = tells_lexical (chars source) c.args.fault.now found (refusal_told (chars source) found r) f c.if-fault-eq-LEXICAL.true in
-    let same = rw c.in-Some-2.is at c.in_ok-error.ensures it.lexical_error it.at it.breaks it.fault_is in
+    let same = rw c.in-Some-2.is at c.in_ok-error.ensures.exact it.lexical_error it.at it.breaks it.fault_is in
     ap errors.Lexical same ∙ sym it.is
 
 pub returns-in-None-2-clause-exact : goal.returns-in-None-2-clause-exact
 returns-in-None-2-clause-exact c = λ found r f.
     let source = c.args.source.now in
     let it = tells_lexical (chars source) c.args.fault.now found (refusal_told (chars source) found r) f c.if-fault-eq-LEXICAL.true in
-    rw c.in-None-2.is at c.in_ok-error.ensures it.lexical_error it.at it.breaks it.fault_is
+    rw c.in-None-2.is at c.in_ok-error.ensures.exact it.lexical_error it.at it.breaks it.fault_is
 
 pub returns-else-fault-eq-LEXICAL-clause-exact : goal.returns-else-fault-eq-LEXICAL-clause-exact
 returns-else-fault-eq-LEXICAL-clause-exact c = λ found r f.

@@ -25,6 +25,6 @@ returns c first opened with_directives ds set is_open each all =
           (nodes_set (λ a b x p. Adds a b (selection_nodes p)) GathersSelection gathered with_directives old _ set all),
       gathers_inline (counted_directives c.args.directives) ds
           (directives_counted opened.outlines with_directives.outlines c.args.directives ds directives)
-          first.outlines old.outlines _ _ set _ inner c.end_inline_fragment.ensures.own
-          c.end_inline_fragment.ensures.spreads c.end_inline_fragment.ensures.level,
+          first.outlines old.outlines _ _ set _ inner c.count_directives.ensures.own
+          c.count_directives.ensures.spreads c.count_directives.ensures.level,
     )
