@@ -9,6 +9,17 @@ def outside_fences(text):
     return re.sub(r"^```.*?^```$", "", text, flags=re.S | re.M)
 
 
+def fences(text):
+    """The blocks between fences, each with the word after its first fence."""
+    return re.findall(r"^```(\S*)\n(.*?)^```$", text, re.S | re.M)
+
+
+def unfenced_code(text):
+    """The indented lines outside fences that are code of the prover: they have a sign or a word that nothing else has."""
+    signs = re.compile(r"[≡≢→·∷λ◌↔×]|^ +(?:abbrev|data|record|ensures|requires|ghost)\b")
+    return [line.strip() for line in outside_fences(text).split("\n") if line.startswith("    ") and signs.search(line)]
+
+
 def links(text):
     """The files of the repository that a document links to, each with the heading or an empty text."""
     for target in LINK.findall(outside_fences(text)):
@@ -22,6 +33,24 @@ def headings(text):
     number, so each is in the list."""
     titles = re.findall(r"^#+ (.*)$", outside_fences(text), re.M)
     return [re.sub(r"[^\w -]", "", title.lower()).replace(" ", "-") for title in titles]
+
+
+def conditional(text):
+    """The public functions of a file of code that have a condition, each after its type or trait and `::` if it has one."""
+    found, around, in_public, name = [], None, False, None
+    for line in text.split("\n"):
+        head = re.match(r"(pub )?(?:trait|impl(?:<[^>]*>)?(?: .* for)?) (\w+)", line)
+        begun = re.match(r"\s*(pub )?(?:final )?fn (\w+)", line)
+        if head or line == "}":
+            around, in_public = (head[2], bool(head[1])) if head else (None, False)
+        elif begun:
+            name = (f"{around}::" if around else "") + begun[2] if begun[1] or in_public else None
+        elif re.match(r"\s*(\{|.*;)$", line):
+            name = None
+        elif name and re.match(r"\s+requires\b", line):
+            found.append(name)
+            name = None
+    return found
 
 
 def diagrams(text):
