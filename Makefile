@@ -58,7 +58,7 @@ release: # make the files of a release
 check-release: # test them
 	tests/check_release
 
-version: # write the version of the file VERSION into the other files
+version: # write the version and the homepage of VERSION and HOMEPAGE into the other files
 	scripts/version
 
 instructions: # measure, in instructions
