@@ -132,10 +132,7 @@ static PyObject *location_of(const builder *b, int class, span at) {
     if (b->origin == Py_None) return none();
     Py_INCREF(b->origin);
     PyObject *values[] = {PyLong_FromUnsignedLong(at.start), PyLong_FromUnsignedLong(at.end), b->origin};
-    PyObject *location = object_of(b, class, values);
-    /* It refers only to numbers and a source, so it is in no reference cycle that the collector has to find. */
-    if (location != NULL) PyObject_GC_UnTrack(location);
-    return location;
+    return object_of(b, class, values);
 }
 
 #define NODE(b, class, at, ...) object_of(b, class, (PyObject *[]){location_of(b, LOCATION, at), __VA_ARGS__})

@@ -2,72 +2,17 @@
 
 from __future__ import annotations
 
-from typing import Any, Dict, Iterator, List, Optional, Tuple
+from typing import Any, Dict, Iterator, List, Tuple
 
 from ._graphql_release import RULES, VERSION  # before graphql-core's modules, since it checks the release
 
-from graphql.language import Lexer, OperationType, Source, Token, TokenKind, ast
+from graphql.language import OperationType, ast
 from graphql.language.parser import parse as _own_parse
 
 from . import _graphql_core
+from ._graphql_locations import DocumentLocation, Location
 
 __all__ = ["Location"]
-
-
-class _Tokens:
-    """The tokens of a source, by where they start and where they end."""
-
-    def __init__(self, source: Source) -> None:
-        self.body = source.body
-        self.starting: Dict[int, Token] = {}
-        self.ending: Dict[int, Token] = {}
-        lexer = Lexer(source)
-        self.first = lexer.token
-        while lexer.token.kind is not TokenKind.EOF:
-            token = lexer.advance()
-            if token.kind is not TokenKind.EOF:
-                self.starting[token.start] = self.ending[token.end] = token
-        self.last = lexer.token
-
-
-def _tokens_of(source: Source) -> _Tokens:
-    """They are computed when one is first asked for, and kept with the source."""
-    tokens: Optional[_Tokens] = source.__dict__.get("_firthnapkin_tokens")
-    if tokens is None or tokens.body is not source.body:
-        tokens = source.__dict__["_firthnapkin_tokens"] = _Tokens(source)
-    return tokens
-
-
-class Location(ast.Location):
-    """A location whose tokens are made when they are asked for."""
-
-    __slots__ = ()
-
-    @property
-    def start_token(self) -> Token:  # type: ignore[override]
-        return _tokens_of(self.source).starting[self.start]
-
-    @property
-    def end_token(self) -> Token:  # type: ignore[override]
-        return _tokens_of(self.source).ending[self.end]
-
-    def __reduce__(self) -> Tuple[Any, ...]:
-        return ast.Location, (self.start_token, self.end_token, self.source)
-
-
-class _DocumentLocation(Location):
-    """The location of a document, which begins and ends with tokens of its own."""
-
-    __slots__ = ()
-
-    @property
-    def start_token(self) -> Token:  # type: ignore[override]
-        return _tokens_of(self.source).first
-
-    @property
-    def end_token(self) -> Token:  # type: ignore[override]
-        return _tokens_of(self.source).last
-
 
 _PLACE = ("start", "end", "source")
 
@@ -139,7 +84,7 @@ def _rows() -> Iterator[Tuple[Any, Tuple[str, ...], int]]:
                     f" {node_class.__name__} {verb} {', '.join(keys)}"
                 )
         yield node_class, given + rest, len(given)
-    for location in (Location, _DocumentLocation):
+    for location in (Location, DocumentLocation):
         yield location, _PLACE, len(_PLACE)
 
 
