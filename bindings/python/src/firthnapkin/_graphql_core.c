@@ -1,5 +1,6 @@
 /* graphql-core's nodes of a source that both parsers read alike, for graphql_core.py. */
 #include "_graphql_limits.h"
+#include "_slots.h"
 
 /* ---- the document */
 
@@ -223,7 +224,7 @@ static void end(void *module) {
     clear(module);
 }
 
-static PyModuleDef_Slot slots[] = {{0, NULL}};
+static PyModuleDef_Slot slots[] = {{MULTIPLE_INTERPRETERS, OWN_LOCKS}, {0, NULL}};
 
 static struct PyModuleDef definition = {PyModuleDef_HEAD_INIT,
                                         .m_name = "firthnapkin._graphql_core",
@@ -234,5 +235,5 @@ static struct PyModuleDef definition = {PyModuleDef_HEAD_INIT,
                                         .m_free = end};
 
 PyMODINIT_FUNC PyInit__graphql_core(void) {
-    return PyModuleDef_Init(&definition);
+    return initialised(&definition, slots);
 }

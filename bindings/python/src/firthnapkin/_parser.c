@@ -3,6 +3,7 @@
 #include <Python.h>
 
 #include "_limits.h"
+#include "_slots.h"
 #include "whole.h"
 
 /* A call's status and its bytes objects: `first`, the texts, and the complexities if `count` is 3. */
@@ -193,11 +194,11 @@ static int begin(PyObject *module) {
         : 0;
 }
 
-static PyModuleDef_Slot slots[] = {{Py_mod_exec, begin}, {0, NULL}};
+static PyModuleDef_Slot slots[] = {{MULTIPLE_INTERPRETERS, OWN_LOCKS}, {Py_mod_exec, begin}, {0, NULL}};
 
 static struct PyModuleDef definition = {
     PyModuleDef_HEAD_INIT, .m_name = "firthnapkin._parser", .m_methods = methods, .m_slots = slots};
 
 PyMODINIT_FUNC PyInit__parser(void) {
-    return PyModuleDef_Init(&definition);
+    return initialised(&definition, slots);
 }
