@@ -9,6 +9,8 @@ import tempfile
 import unittest
 from typing import Any, Dict, List, Tuple, Union
 
+import firthnapkin
+
 GOOD, BAD, SCHEMA = b"{ a }", b"{\n  a )\n}", b"type A { b: C }"
 REFUSED = 'bad.graphql:2:5: Unexpected ")"\n1 | {\n2 |   a )\n  |     ^\n3 | }\n'
 
@@ -118,7 +120,16 @@ class Checks(Tool):
             self.assertEqual(self.tool(*words), (1, REFUSED))
         found = self.run_tool("check", "good.graphql", "--depth", "1", "bad.graphql")
         self.assertEqual((found.returncode, found.stdout.decode()), (1, REFUSED))
-        self.assertEqual(self.run_tool("--help").returncode, 0)
+
+    def test_help_and_version(self) -> None:
+        """Both are written to standard output, wherever they are, and no file is read."""
+        for words in (("--version",), ("check", "--version", "bad.graphql"), ("--json", "--version")):
+            self.assertEqual(self.tool(*words), (0, f"firthnapkin {firthnapkin.__version__}\n"))
+        for words in (("--help",), ("-h",), ("check", "missing", "--help")):
+            status, written = self.tool(*words)
+            self.assertEqual((status, written.split(" [")[0]), (0, "usage: python -m firthnapkin"))
+            for word in ("check", "canonical", "nodes", "tokens", "--depth", "--max-root-fields", "--json", "--strict", "--version"):
+                self.assertIn(f"\n  {word} ", written)
 
 
 class Schemas(Tool):
@@ -312,6 +323,8 @@ class Outputs(Tool):
             (f"{command} > /dev/full", (2, b"", full)),
             (f"{tool} good.graphql > /dev/full", (2, b"", full)),
             (f"{command} >&-", (2, b"", b"python -m firthnapkin: standard output is closed\n")),
+            *((f"{tool} {word} > /dev/full", (2, b"", full)) for word in ("--help", "--version")),
+            *((f"{tool} {word} >&-", (2, b"", b"python -m firthnapkin: standard output is closed\n")) for word in ("--help", "--version")),
         ]:  # fmt: skip
             found = subprocess.run(["bash", "-c", line], cwd=self.folder, capture_output=True, check=False)
             self.assertEqual((found.returncode, found.stdout, found.stderr), wanted)

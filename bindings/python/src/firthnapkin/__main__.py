@@ -13,6 +13,7 @@ import sys
 import time
 from typing import Any, Callable, Mapping, Optional, Sequence, Union
 
+from . import __version__
 from ._files import File, Unreadable, files_of, read
 from ._reports import Counts, Lines, Objects, Refusal
 from .document import Document
@@ -72,6 +73,7 @@ def options_of(arguments: Optional[Sequence[str]]) -> argparse.Namespace:
         default = LIMITS.defaults[name]
         words = limit.words if default is None else f"{limit.words}; {default} by default"
         add(f"--{name.replace('_', '-')}", type=number(limit.largest), default=default, metavar="N", help=words)
+    add("--version", action="version", version=f"firthnapkin {__version__}", help="show the version and exit")
     add("--json", action="store_true", help="write a JSON object for each file, in a line of its own")
     add("--strict", action="store_true", help="report schemas as errors, in place of skipping them")
     return parser.parse_intermixed_args(arguments)
@@ -188,7 +190,6 @@ class Run:
 
 def main(arguments: Optional[Sequence[str]] = None) -> int:
     """Runs the tool, and returns its exit status."""
-    options = options_of(arguments)
     if sys.stdout is None:
         return _trouble("standard output is closed")
     for stream in (sys.stdout, sys.stderr):
@@ -196,7 +197,7 @@ def main(arguments: Optional[Sequence[str]] = None) -> int:
             # A character that the terminal's encoding lacks ends nothing.
             stream.reconfigure(errors="backslashreplace")
     try:
-        status = Run(options).status()
+        status = _status_of(arguments)
         sys.stdout.flush()
         return status
     except KeyboardInterrupt:
@@ -207,6 +208,15 @@ def main(arguments: Optional[Sequence[str]] = None) -> int:
         return _TROUBLE if isinstance(error, BrokenPipeError) else _trouble(f"the output can't be written: {error.strerror}")
     except MemoryError:
         return _trouble("memory ran out")
+
+
+def _status_of(arguments: Optional[Sequence[str]]) -> int:
+    """Returns the exit status of a run. That of --help, of --version and of a wrong argument is argparse's."""
+    try:
+        options = options_of(arguments)
+    except SystemExit as end:
+        return int(end.code or 0)
+    return Run(options).status()
 
 
 def _trouble(words: str) -> int:
