@@ -3,11 +3,13 @@
 import concurrent.futures
 import copy
 import multiprocessing
+import pathlib
 import pickle
 import unittest
-from typing import Any, Dict
+from typing import Any, Callable, Dict, List, Tuple
 
-from firthnapkin import ErrorDetail, ErrorKind, FirthnapkinError, Position, parse
+from firthnapkin import ErrorDetail, ErrorKind, FirthnapkinError, Position, canonical, parse, tokens
+from helpers import Text
 
 
 def error_of(text: str, **options: Any) -> FirthnapkinError:
@@ -19,7 +21,7 @@ def error_of(text: str, **options: Any) -> FirthnapkinError:
 
 
 def parts(error: FirthnapkinError) -> Dict[str, Any]:
-    names = "message kind start end source detail character line column lineno colno utf16_column excerpt".split()
+    names = "message kind start end source source_name detail character line column lineno colno utf16_column excerpt".split()
     return {"words": str(error), **{name: getattr(error, name) for name in names}}
 
 
@@ -96,7 +98,7 @@ class Errors(unittest.TestCase):
 
 class Copies(unittest.TestCase):
     def test_copies(self) -> None:
-        for error in (error_of("{\n a ) é 𝄞 }"), error_of("{ é"), error_of("{a{b}}", depth=1)):
+        for error in (error_of("{\n a ) é 𝄞 }"), error_of("{ é", name="é.graphql"), error_of("{a{b}}", depth=1)):
             for other in [copy.copy(error), copy.deepcopy(error)] + [
                 pickle.loads(pickle.dumps(error, protocol)) for protocol in range(pickle.HIGHEST_PROTOCOL + 1)
             ]:
@@ -111,6 +113,57 @@ class Copies(unittest.TestCase):
             with self.assertRaises(FirthnapkinError) as raised:
                 answer.result(timeout=60)
         self.assertEqual(parts(raised.exception), parts(error_of("{ a ) }")))
+
+
+class Names(unittest.TestCase):
+    """The names that calls are given for their sources."""
+
+    # Calls with an error at 1:3, each with its message.
+    CALLS: List[Tuple[Callable[..., Any], str]] = [
+        (lambda **name: parse("{ )", **name), 'Unexpected ")"'),
+        (lambda **name: parse("{ é", **name), 'Unknown character "é"'),
+        (lambda **name: parse("{ \ud800", **name), "Lone surrogate U+D800"),
+        (lambda **name: parse("{a{b}}", depth=1, **name), "Too deeply nested"),
+        (lambda **name: parse("{ a }", max_tokens=1, **name), "Too many tokens"),
+        (lambda **name: parse("  {a}", max_fields=0, **name), "Too many fields in an operation without a name: 1, with a limit of 0"),
+        (lambda **name: parse("{ ...F }", max_fields=5, **name), "Unknown fragment"),
+        (lambda **name: parse("{ ...F }", **name).operations[0].complexity, "Unknown fragment"),
+        (lambda **name: tokens("{ é", **name), 'Unknown character "é"'),
+        (lambda **name: tokens("{ \ud800", **name), "Lone surrogate U+D800"),
+        (lambda **name: tokens("{ a", max_tokens=1, **name), "Too many tokens"),
+        (lambda **name: canonical("{ é", **name), 'Unknown character "é"'),
+        (lambda **name: canonical("{ \ud800", **name), "Lone surrogate U+D800"),
+    ]  # fmt: skip
+
+    def test_errors(self) -> None:
+        """The name is before the line and the column, as it is, and with none the words are as if there were no names."""
+        for i, (call, message) in enumerate(self.CALLS):
+            for name in (None, "queries/user.graphql", "", "a: b\n.graphql", "\ud800", Text("é")):
+                with self.subTest(call=i, name=name), self.assertRaises(FirthnapkinError) as raised:
+                    call(name=name)
+                error = raised.exception
+                where = "1:3" if name is None else f"{name}:1:3"
+                self.assertEqual((str(error), error.message), (f"{message}. At {where}", message))
+                self.assertEqual(error.source_name, name)
+            with self.assertRaises(FirthnapkinError) as raised:
+                call()
+            self.assertEqual((str(raised.exception), raised.exception.source_name), (f"{message}. At 1:3", None))
+
+    def test_wrong_types(self) -> None:
+        """A name that is no str is an error, whatever the source is."""
+        for name in (b"a", 5, 0, False, ["a"], pathlib.Path("a"), object()):
+            words = f"name must be a str or None, not {type(name).__name__}"
+            for call, _ in self.CALLS:
+                self.assertRaisesRegex(TypeError, words, call, name=name)
+            for named in (parse, tokens, canonical):
+                self.assertRaisesRegex(TypeError, words, named, "{a}", name=name)
+        for named in (parse, tokens, canonical):
+            self.assertRaises(TypeError, named, "{a}", "a.graphql")
+
+    def test_errors_that_are_made_by_hand(self) -> None:
+        start, end = Position(0, 1, 2, 3), Position(4, 5, 6, 7)
+        error = FirthnapkinError("a", ErrorKind.LEXICAL, start, end, "{")
+        self.assertEqual((error.source_name, str(error)), (None, "a. At 2:3"))
 
 
 class Schemas(unittest.TestCase):

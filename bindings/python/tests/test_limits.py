@@ -7,14 +7,18 @@ from typing import Annotated, Any, Optional, Tuple
 from unittest import mock
 
 import firthnapkin
-from firthnapkin import MAX_DEPTH, parse, tokens
+from firthnapkin import MAX_DEPTH, canonical, parse, tokens
 from firthnapkin.__main__ import options_of
 from firthnapkin.limits import Limit, Limits, SizeLimit, has_sizes, packed, with_loosest
 from firthnapkin.parser import LIMITS
 from helpers import LOW_LIMITS, NO_LIMITS, NO_SIZES, words_of
 
 SIZES = ["max_fields", "max_aliases", "max_directives", "max_root_fields", "max_field_depth"]
-NAMES = {"depth": (int, 200), "max_tokens": (Optional[int], None), **{name: (Optional[int], None) for name in SIZES}}
+NAMES = {
+    "name": (Optional[str], None),
+    "depth": (int, 200),
+    **{name: (Optional[int], None) for name in ("max_tokens", *SIZES)},
+}
 LARGEST_WORD = 2**32 - 1
 
 
@@ -45,9 +49,11 @@ class Signatures(unittest.TestCase):
         self.assertEqual({it.name: (hints[it.name], it.default) for it in parameters}, {name: NAMES[name] for name in names})
 
     def test_signatures(self) -> None:
-        self.same(parse, ["depth", "max_tokens", *SIZES])
-        self.same(tokens, ["max_tokens"])
-        self.assertEqual(list(inspect.signature(parse).parameters), ["source", "depth", "max_tokens", *SIZES])
+        self.same(parse, ["name", "depth", "max_tokens", *SIZES])
+        self.same(tokens, ["name", "max_tokens"])
+        self.same(canonical, ["name"])
+        self.assertEqual(list(inspect.signature(parse).parameters), ["source", "name", "depth", "max_tokens", *SIZES])
+        self.assertEqual(list(LIMITS.by_name), ["depth", "max_tokens", *SIZES])
 
 
 class Words(unittest.TestCase):

@@ -74,22 +74,25 @@ REVEALED = ["SyntaxParts[Operation]", "Operation | None", "int", "Fragment | Non
 
 # The lines with a call that has a wrong option.
 CALLS = """
-from firthnapkin import parse, tokens
+from firthnapkin import canonical, parse, tokens
 
 parse("{ a }", depth=5, max_tokens=None)
 parse(source="{ a }", max_tokens=5)
 parse("{ a }", max_fields=5, max_aliases=5, max_directives=5, max_root_fields=5, max_field_depth=None)
-tokens("{ a }", max_tokens=5)
+tokens("{ a }", max_tokens=5, name="a.graphql")
+canonical("{ a }", name=parse("{ a }", name=None).text)
 parse("{ a }", depth="5")
 parse("{ a }", depth=None)
 parse("{ a }", max_tokens=5.0)
 parse("{ a }", dept=5)
-parse("{ a }", 5)
+parse("{ a }", "a.graphql")
 tokens("{ a }", depth=5)
 tokens("{ a }", max_fields=5)
 parse("{ a }", max_fields="5")
+parse("{ a }", name=5)
+canonical("{ a }", name=b"a.graphql")
 """
-REFUSED = [8, 9, 10, 11, 12, 13, 14, 15]
+REFUSED = list(range(9, 19))
 
 
 def plain(revealed: str) -> str:

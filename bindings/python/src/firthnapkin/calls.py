@@ -3,7 +3,7 @@
 from __future__ import annotations
 
 import struct
-from typing import Tuple
+from typing import Optional, Tuple
 
 from .errors import ErrorDetail, ErrorKind, FirthnapkinError
 from .parts import Position
@@ -21,31 +21,34 @@ _WITH_ERROR = (_SYNTAX_ERROR, _TOO_DEEP, _TOO_MANY_TOKENS, _UNKNOWN_FRAGMENT, _F
 _ERROR = struct.Struct("=3I8I2I")
 
 
-def require_text(source: str) -> None:
+def require_text(source: str, name: Optional[str]) -> None:
+    """Raises TypeError if a source is no str, or its name neither a str nor None."""
     if not isinstance(source, str):
         raise TypeError(f"source must be a str, not {type(source).__name__}")
+    if name is not None and not isinstance(name, str):
+        raise TypeError(f"name must be a str or None, not {type(name).__name__}")
 
 
-def encoded(source: str) -> bytes:
+def encoded(source: str, name: Optional[str]) -> bytes:
     """Returns the UTF-8 of a str. Raises FirthnapkinError if it has a lone surrogate."""
     try:
         return str.encode(source)
     except UnicodeEncodeError as error:
-        raise _surrogate(source, error.start) from None
+        raise _surrogate(source, error.start, name) from None
 
 
-def given(source: str, status: int, first: bytes, texts: bytes) -> Tuple[bytes, bytes]:
-    """Returns the results of a call. Raises its error if the status says that it failed."""
+def given(source: str, status: int, first: bytes, texts: bytes, *, name: Optional[str] = None) -> Tuple[bytes, bytes]:
+    """Returns the results of a call on a source, which may have a name. Raises its error if the status says that it failed."""
     if status == _OK:
         return first, texts
     if status in _WITH_ERROR:
-        raise _error(source, first, texts)
+        raise _error(source, first, texts, name)
     if status == _SOURCE_TOO_LONG:
         raise ValueError("source must have less than 4 GiB")
     raise SystemError(f"the parser returned {status}")
 
 
-def _error(source: str, numbers: bytes, words: bytes) -> FirthnapkinError:
+def _error(source: str, numbers: bytes, words: bytes, name: Optional[str]) -> FirthnapkinError:
     kind, detail, character, *positions = _ERROR.unpack(numbers)[:11]
     start, end = Position(*positions[:4]), Position(*positions[4:])
     message = words.decode()
@@ -59,6 +62,7 @@ def _error(source: str, numbers: bytes, words: bytes) -> FirthnapkinError:
         source,
         ErrorDetail(detail),
         chr(character) if detail in _WITH_CHARACTER else None,
+        name,
     )
 
 
@@ -69,11 +73,12 @@ _WITH_CHARACTER = (
 )
 
 
-def _surrogate(source: str, index: int) -> FirthnapkinError:
+def _surrogate(source: str, index: int, name: Optional[str]) -> FirthnapkinError:
     """Returns the error of a str that can't be written as UTF-8."""
     before = source[:index]
     line, column = before.count("\n"), index - (before.rfind("\n") + 1)
     start = Position(index, line, column, len(str.encode(before)))
     # It would take three bytes.
     end = Position(index + 1, line, column + 1, start.byte + 3)
-    return FirthnapkinError(f"Lone surrogate U+{ord(source[index]):04X}", ErrorKind.SURROGATE, start, end, source)
+    message = f"Lone surrogate U+{ord(source[index]):04X}"
+    return FirthnapkinError(message, ErrorKind.SURROGATE, start, end, source, source_name=name)

@@ -20,19 +20,23 @@ __all__ = ["Document"]
 class Document(Parts[Node]):
     """A document's nodes, each part before the parts in it. A node object is made each time that one is asked for."""
 
-    __slots__ = ("_source", "_texts", "_parent", "_complexities")
+    __slots__ = ("_source", "_texts", "_parent", "_complexities", "_name")
 
     # kind, descendants, the start's and the end's index, line, column and byte, the name's bytes, value, value's length
     _LAYOUT = struct.Struct("=2I8I2IqI4x")
     _HEAD = struct.Struct("=2I")
 
-    def __init__(self, text: str, source: bytes, nodes: bytes, texts: bytes, complexities: bytes) -> None:
+    def __init__(
+        self, text: str, source: bytes, nodes: bytes, texts: bytes, complexities: bytes, name: Optional[str] = None
+    ) -> None:
         super().__init__(text, nodes)
         self._source = source
         self._texts = texts
         self._parent: Optional[array[int]] = None
         # Nothing if they aren't found yet.
         self._complexities = complexities
+        # The name of the text, for the error of a fragment that can't be expanded.
+        self._name = name
 
     def _part(self, index: int) -> Node:
         return Node(self, index)
@@ -82,7 +86,7 @@ class Document(Parts[Node]):
     def _complexity(self, operation: int) -> Complexity:
         """Returns how large the operation of this node is. They are found when one is first asked for, and kept."""
         if not self._complexities:
-            self._complexities, _ = given(self._text, *_parser.complexities(self._source))
+            self._complexities, _ = given(self._text, *_parser.complexities(self._source), name=self._name)
         return complexity_of(self._complexities, operation)
 
     def _parents(self) -> array[int]:

@@ -63,8 +63,10 @@ class FirthnapkinError(ValueError):
         source: str,
         detail: ErrorDetail = ErrorDetail.NONE,
         character: Optional[str] = None,
+        source_name: Optional[str] = None,
     ) -> None:
-        super().__init__(f"{message}. At {start.line + 1}:{start.column + 1}")
+        where = "" if source_name is None else f"{source_name}:"
+        super().__init__(f"{message}. At {where}{start.line + 1}:{start.column + 1}")
         #: The error in words, without its position.
         self.message = message
         self.kind = kind
@@ -74,6 +76,8 @@ class FirthnapkinError(ValueError):
         self.detail = detail
         #: The character that the detail is about.
         self.character = character
+        #: The name that the call was given for the source, and None without one.
+        self.source_name = source_name
 
     @property
     def line(self) -> int:
@@ -116,8 +120,8 @@ class FirthnapkinError(ValueError):
         return self.kind is ErrorKind.UNEXPECTED_TOKEN and begins_schema(self.source, self.start.index, self.end.index)
 
     def __reduce__(self) -> Tuple[Any, ...]:
-        parts = (self.message, self.kind, self.start, self.end, self.source, self.detail, self.character)
-        return type(self), parts, self.__dict__
+        position = (self.start, self.end, self.source)
+        return type(self), (self.message, self.kind, *position, self.detail, self.character, self.source_name), self.__dict__
 
 
 def _replaced(source: str) -> bytes:

@@ -81,33 +81,33 @@ class Tokens(Parts[Token]):
         return f"<{self._count} tokens>"
 
 
-def tokens(source: str, *, max_tokens: Optional[int] = None) -> Tokens:
+def tokens(source: str, *, name: Optional[str] = None, max_tokens: Optional[int] = None) -> Tokens:
     """Returns the tokens of a text. The last one is its end. Other threads run meanwhile.
 
     White space, line ends, commas, comments and byte order marks are no tokens. With `max_tokens` the text may have no more
     tokens than that, its end not counted. A text with more is refused at the first token too many, whatever comes after it but
-    a lone surrogate.
+    a lone surrogate. The name is that of the text, as of a file: errors have it as their `source_name`.
 
     Raises FirthnapkinError, a ValueError, at the first position that has no token, or at the first token too many; TypeError
-    if the source is no str, or max_tokens neither an int nor None; ValueError if max_tokens is below 0, or the text has
+    if the source is no str, the name neither a str nor None, or max_tokens neither an int nor None; ValueError if max_tokens is below 0, or the text has
     4 GiB or more; MemoryError if memory runs out.
     """
-    require_text(source)
+    require_text(source, name)
     most = LIMITS.by_name["max_tokens"].word("max_tokens", max_tokens)
-    parts, _ = given(source, *_parser.tokens(encoded(source), most))
+    parts, _ = given(source, *_parser.tokens(encoded(source, name), most), name=name)
     return Tokens(source, parts)
 
 
-def canonical(source: str) -> str:
+def canonical(source: str, *, name: Optional[str] = None) -> str:
     """Returns the canonical text: one for each query, whatever its white space and comments. Other threads run meanwhile.
 
     It is the tokens of the text as they are written, with a space between two neighbours of which neither is a punctuator, and
     before `...` after a token that is no punctuator. It is never more than twice as long as the text. The call doesn't check
-    whether the text is a document.
+    whether the text is a document. The name is that of the text, as of a file: errors have it as their `source_name`.
 
-    Raises FirthnapkinError, a ValueError, at the first position that has no token; TypeError if the source is no str;
-    ValueError if the text has 4 GiB or more; MemoryError if memory runs out.
+    Raises FirthnapkinError, a ValueError, at the first position that has no token; TypeError if the source is no str, or the
+    name neither a str nor None; ValueError if the text has 4 GiB or more; MemoryError if memory runs out.
     """
-    require_text(source)
-    _, text = given(source, *_parser.canonical(encoded(source)))
+    require_text(source, name)
+    _, text = given(source, *_parser.canonical(encoded(source, name)), name=name)
     return text.decode()

@@ -59,13 +59,14 @@ _UNLIMITED = (*[0] * _WORDS, *[_parser.MAX_TOKENS] * _parser.SIZES)
 
 
 class Limits:
-    """The limits that a function has: the parameters that are given by name, in the order of firthnapkin_limits, and then those on
-    sizes, in the order of firthnapkin_complexity."""
+    """The limits that a function has: the parameters whose annotations have a limit, in the order of firthnapkin_limits, and then
+    those on sizes, in the order of firthnapkin_complexity."""
 
     def __init__(self, function: Callable[..., object]) -> None:
         hints = get_type_hints(function, include_extras=True)
-        self.by_name: Dict[str, Limit] = {it.name: _limit_in(hints[it.name]) for it in _named(function)}
-        self.defaults: Dict[str, Optional[int]] = {it.name: it.default for it in _named(function)}
+        found = [(it, limit) for it in _named(function) for limit in _limits_in(hints[it.name])]
+        self.by_name: Dict[str, Limit] = {it.name: limit for it, limit in found}
+        self.defaults: Dict[str, Optional[int]] = {it.name: it.default for it, _ in found}
         sizes = [name for name, limit in self.by_name.items() if isinstance(limit, SizeLimit)]
         others = [name for name in self.by_name if name not in sizes]
         self._places = {name: i for i, name in (*enumerate(others), *enumerate(sizes, _WORDS))}
@@ -122,7 +123,6 @@ def _named(function: Callable[..., object]) -> List[inspect.Parameter]:
     return [it for it in inspect.signature(function).parameters.values() if it.kind is it.KEYWORD_ONLY]
 
 
-def _limit_in(hint: Any) -> Limit:
-    """Returns the limit of an annotation. Before Python 3.11 those of parameters that are None by default are within Optional."""
-    found: Limit = next(it for part in (hint, *get_args(hint)) for it in getattr(part, "__metadata__", ()) if isinstance(it, Limit))
-    return found
+def _limits_in(hint: Any) -> List[Limit]:
+    """Returns the limits in an annotation. Before Python 3.11 those of parameters that are None by default are within Optional."""
+    return [it for part in (hint, *get_args(hint)) for it in getattr(part, "__metadata__", ()) if isinstance(it, Limit)]

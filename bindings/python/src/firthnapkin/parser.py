@@ -15,6 +15,7 @@ __all__ = ["parse"]
 def parse(
     source: str,
     *,
+    name: Optional[str] = None,
     depth: Annotated[int, Limit("how deep brackets may be nested", largest=_parser.MAX_DEPTH)] = 200,
     max_tokens: Annotated[Optional[int], Limit("how many tokens a request may have", unlimited=_parser.MAX_TOKENS)] = None,
     max_fields: Annotated[Optional[int], SizeLimit("how many fields an operation may have")] = None,
@@ -32,18 +33,20 @@ def parse(
     operation beyond one of them is refused where it begins, with a message that has the number and the limit. With such a
     limit a spread that can't be expanded is refused, too, if an operation reaches it.
 
+    The name is that of the text, as of a file: errors have it as their `source_name`.
+
     Raises FirthnapkinError, a ValueError, if the text is no document, or exceeds a limit; TypeError if the source is no str,
-    the depth no int, or another limit neither an int nor None; ValueError if the depth is below 0 or above MAX_DEPTH, another
+    the name neither a str nor None, the depth no int, or another limit neither an int nor None; ValueError if the depth is below 0 or above MAX_DEPTH, another
     limit is below 0, one on operations is above 4294967294, or the text has 4 GiB or more; MemoryError if memory runs out.
     """
-    require_text(source)
+    require_text(source, name)
     limits = LIMITS.packed(locals())
-    written = encoded(source)
+    written = encoded(source, name)
     status, nodes, texts, complexities = _parser.parse(written, limits)
-    nodes, texts = given(source, status, nodes, texts)
-    return Document(source, written, nodes, texts, complexities)
+    nodes, texts = given(source, status, nodes, texts, name=name)
+    return Document(source, written, nodes, texts, complexities, name)
 
 
-# The signature is the place where limits are written: each is a line of it, and they go to the library in its order. A TypedDict
+# The signature is the place where limits are written: each is a line of it with a Limit, and they go to the library in its order. A TypedDict
 # of them would be shorter where several functions have them all, but mypy before 1.7 reads such options as any.
 LIMITS = Limits(parse)
