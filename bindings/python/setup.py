@@ -10,15 +10,17 @@ import sys
 from pathlib import Path
 
 from setuptools import Extension, setup
+from setuptools.command.build_py import build_py
 
 HERE = Path(__file__).resolve().parent
 ROOT = HERE.parent.parent
-# A source distribution has the archive, the headers and the version inside.
+# A source distribution has the archive, the headers and the version inside, and the changes beside this file.
 INSIDE = HERE / "native"
 IS_RELEASE = INSIDE.exists()
 LIBRARY = (INSIDE if IS_RELEASE else ROOT / "out") / "libfirthnapkin.a"
 HEADERS = [INSIDE] if IS_RELEASE else [ROOT / "include", ROOT / "bindings"]
 VERSION = (INSIDE if IS_RELEASE else ROOT) / "VERSION"
+CHANGES = (HERE if IS_RELEASE else ROOT) / "CHANGELOG.md"
 
 
 def machine():
@@ -54,7 +56,16 @@ def extension(name):
     )
 
 
+class BuildWithChanges(build_py):
+    """Builds the modules, with the list of changes among them."""
+
+    def run(self):
+        super().run()
+        self.copy_file(str(CHANGES), os.path.join(self.build_lib, "firthnapkin", CHANGES.name))
+
+
 setup(
+    cmdclass={"build_py": BuildWithChanges},
     version=VERSION.read_text(encoding="utf-8").strip(),
     ext_modules=[extension("_parser"), extension("_graphql_core")],
 )

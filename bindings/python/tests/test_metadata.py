@@ -1,5 +1,6 @@
 """What an installed package says of itself: its licence, its pages, and the Pythons that it is for."""
 
+import os
 import unittest
 from importlib.metadata import metadata
 
@@ -21,3 +22,8 @@ class Metadata(unittest.TestCase):
         names = ("Name", "Version", "License", "Requires-Python")
         self.assertEqual([found[name] for name in names], ["firthnapkin", firthnapkin.__version__, "BSD-2-Clause", ">=3.9"])
         self.assertIsNone(found.get_all("Requires-Dist"))
+
+    def test_changes(self) -> None:
+        """The package has the list of changes, of which the first are those of its version."""
+        with open(os.path.join(os.path.dirname(firthnapkin.__file__), "CHANGELOG.md"), encoding="utf-8") as file:
+            self.assertTrue(file.read().startswith(f"# Changelog\n\n## {firthnapkin.__version__}"))
