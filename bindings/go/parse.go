@@ -59,6 +59,8 @@ import (
 	"reflect"
 	"runtime"
 	"unsafe"
+
+	_ "firthnapkin/native" // so that go mod vendor copies the archive and the headers
 )
 
 // MaxDepth is the largest depth that ParseWithin takes.
