@@ -100,8 +100,8 @@ func syntaxErrorOf(source string, found *C.firthnapkin_error) error {
 		return err
 	}
 	start, end := positionOf(found.start), positionOf(found.end)
-	if found.kind == C.FIRTHNAPKIN_ERROR_UNEXPECTED_TOKEN && beginsSchema(source, start, end) {
-		message += schemaWords
+	if found.kind == C.FIRTHNAPKIN_ERROR_UNEXPECTED_TOKEN {
+		message += wordsOn(source, start, end)
 	}
 	return &SyntaxError{
 		Message: message,

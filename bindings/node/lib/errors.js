@@ -3,7 +3,7 @@
 
 const { addon, encoded, excerptAt, namesOf } = require("./calls");
 const { Units } = require("./positions");
-const { beginsSchema } = require("./schemas");
+const { wordsOn } = require("./schemas");
 
 // By their numbers.
 const KINDS = namesOf(addon.ERROR_KINDS);
@@ -71,8 +71,7 @@ function errorOf(source, numbers, texts) {
     end: units.position(words, 7),
   };
   let reason = Buffer.from(texts).utf8Slice();
-  if (found.kind === "unexpectedToken" && beginsSchema(source, found.start.index, found.end.index))
-    reason += ": this is a schema's definition, not a request's";
+  if (found.kind === "unexpectedToken") reason += wordsOn(source, found.start.index, found.end.index);
   return new FirthnapkinError(reason, found, source);
 }
 

