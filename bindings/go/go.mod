@@ -1,3 +1,3 @@
-module firthnapkin
+module firthnapkin.example/go
 
 go 1.19

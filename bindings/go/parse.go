@@ -60,7 +60,7 @@ import (
 	"runtime"
 	"unsafe"
 
-	_ "firthnapkin/native" // so that go mod vendor copies the archive and the headers
+	_ "firthnapkin.example/go/native" // so that go mod vendor copies the archive and the headers
 )
 
 // MaxDepth is the largest depth that ParseWithin takes.

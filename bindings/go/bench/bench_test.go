@@ -2,12 +2,12 @@
 package bench
 
 import (
-	"firthnapkin"
 	"fmt"
 	"os"
 	"strings"
 	"testing"
 
+	firthnapkin "firthnapkin.example/go"
 	"github.com/vektah/gqlparser/v2/ast"
 	"github.com/vektah/gqlparser/v2/parser"
 )

@@ -3,8 +3,8 @@ module bench
 go 1.19
 
 require (
-	firthnapkin v0.1.0
+	firthnapkin.example/go v0.1.0
 	github.com/vektah/gqlparser/v2 v2.5.1
 )
 
-replace firthnapkin => ../
+replace firthnapkin.example/go => ../
