@@ -97,6 +97,7 @@ libdir=\${prefix}/lib
 
 Name: firthnapkin
 Description: A proved parser of GraphQL's executable documents
+URL: $(cat "$root/HOMEPAGE")
 Version: $(cat "$root/VERSION")
 Cflags: -I\${includedir}
 Libs: -L\${libdir} -lfirthnapkin
