@@ -7,15 +7,16 @@ import "strings"
 // What is said of a schema, which this parser doesn't read, and of the description of an operation or a fragment.
 const (
 	schemaWords      = ": this is a schema's definition, not a request's"
-	descriptionWords = ": this is a description before a request, which the specification of October 2021 doesn't have"
+	descriptionWords = ": a description before a request isn't in the specification of October 2021"
 )
 
-// What is said of a definition that begins with this word and that no document may have, or not with a description. An operation or a
+// What is said of a definition that begins with this token and that no document may have, or not with a description. An operation or a
 // fragment without a description begins at no unexpected token.
 var wordsOfDefinition = map[string]string{
 	"type": schemaWords, "schema": schemaWords, "extend": schemaWords, "directive": schemaWords, "scalar": schemaWords,
 	"interface": schemaWords, "union": schemaWords, "enum": schemaWords, "input": schemaWords,
 	"query": descriptionWords, "mutation": descriptionWords, "subscription": descriptionWords, "fragment": descriptionWords,
+	"{": descriptionWords,
 }
 
 var loosest = within(MaxDepth, AnyTokens)
@@ -23,11 +24,11 @@ var loosest = within(MaxDepth, AnyTokens)
 // wordsOn returns what is said of an unexpected token that begins a definition, or the description of one, or "" if it doesn't. What is
 // before a definition is a document, or has no tokens.
 func wordsOn(source string, start, end Position) string {
-	word := source[start.Byte:end.Byte]
-	if strings.HasPrefix(word, `"`) {
-		word = firstToken(source[end.Byte:])
+	token := source[start.Byte:end.Byte]
+	if strings.HasPrefix(token, `"`) {
+		token = firstToken(source[end.Byte:])
 	}
-	words := wordsOfDefinition[word]
+	words := wordsOfDefinition[token]
 	if words == "" || !mayGoOn(source[:start.Byte]) {
 		return ""
 	}

@@ -7,7 +7,7 @@ import (
 
 const (
 	ofSchema      = ": this is a schema's definition, not a request's"
-	ofDescription = ": this is a description before a request, which the specification of October 2021 doesn't have"
+	ofDescription = ": a description before a request isn't in the specification of October 2021"
 )
 
 // What may be before a definition: nothing, a comment, and documents, the last as deep as any may be.
@@ -36,7 +36,7 @@ func TestSchemas(t *testing.T) {
 
 // A description before an operation or a fragment is an error that says so.
 func TestDescriptions(t *testing.T) {
-	for _, begin := range []string{"query Q { a }", "query{a}", "mutation($b: C) { a }", "subscription { a }", "fragment F on T { a }", "query )"} {
+	for _, begin := range []string{"query Q { a }", "query{a}", "mutation($b: C) { a }", "subscription { a }", "{ a }", "{", "fragment F on T { a }", "query )"} {
 		for _, before := range beforeDefinitions {
 			expectMessage(t, before+`"text" `+begin, len(before), `Unexpected ""text""`+ofDescription)
 		}
@@ -65,10 +65,10 @@ func TestOtherTokens(t *testing.T) {
 		`query ("b" $query: C) { a }`: "query (",
 		`"b"`:                         "",
 		`{ a } "b" # query`:           "{ a } ",
-		`"b" { a }`:                   "",
 		`"b" A { b: C }`:              "",
 		`"b" "c" query Q { a }`:       "",
 		`"b" "query" { a }`:           "",
+		`"b" } query { a }`:           "",
 		`"b" """c""" type A { b: C }`: "",
 		`"b" queries Q { a }`:         "",
 		`"b" Query { a }`:             "",

@@ -5,13 +5,13 @@ const { addon, allocate, encoded, loosest } = require("./calls");
 
 // What is said of a schema, which this parser doesn't read, and of the description of an operation or a fragment.
 const SCHEMA = ": this is a schema's definition, not a request's";
-const DESCRIPTION = ": this is a description before a request, which the specification of October 2021 doesn't have";
+const DESCRIPTION = ": a description before a request isn't in the specification of October 2021";
 
-// What is said of a definition that begins with this word and that no document may have, or not with a description. An operation or
+// What is said of a definition that begins with this token and that no document may have, or not with a description. An operation or
 // a fragment without a description begins at no unexpected token.
 const WORDS = new Map([
-  ...["type", "schema", "extend", "directive", "scalar", "interface", "union", "enum", "input"].map((word) => [word, SCHEMA]),
-  ...["query", "mutation", "subscription", "fragment"].map((word) => [word, DESCRIPTION]),
+  ...["type", "schema", "extend", "directive", "scalar", "interface", "union", "enum", "input"].map((token) => [token, SCHEMA]),
+  ...["query", "mutation", "subscription", "fragment", "{"].map((token) => [token, DESCRIPTION]),
 ]);
 
 const LOOSEST = loosest(addon.MAX_DEPTH);

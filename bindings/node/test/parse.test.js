@@ -34,7 +34,7 @@ function lines(source) {
   } catch (error) {
     if (!(error instanceof FirthnapkinError)) throw error;
     const { index, line, column } = error.start;
-    return `${error.reason.replace(/: this is a (schema's definition|description before a request), .*$/, "")}. At ${line}:${Array.from(source.slice(index - column, index)).length}`;
+    return `${error.reason.replace(/: (this is a schema's definition, not|a description before) a request.*$/, "")}. At ${line}:${Array.from(source.slice(index - column, index)).length}`;
   }
   const characters = (index) => Array.from(source.slice(0, index)).length;
   return Array.from(document, (node) => {

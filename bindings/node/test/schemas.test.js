@@ -6,7 +6,7 @@ const { test } = require("node:test");
 const { parse, tokens, FirthnapkinError } = require("..");
 
 const SCHEMA = ": this is a schema's definition, not a request's";
-const DESCRIPTION = ": this is a description before a request, which the specification of October 2021 doesn't have";
+const DESCRIPTION = ": a description before a request isn't in the specification of October 2021";
 
 function errorOf(source, options = { depth: 1000 }) {
   try {
@@ -40,7 +40,7 @@ test("the first token of a schema's definition, or of its description, is an err
 
 test("a description before an operation or a fragment is an error that says so", () => {
   for (const begin of [
-    "query Q { a }", "query{a}", "mutation($b: C) { a }", "subscription { a }", "fragment F on T { a }", "query )",
+    "query Q { a }", "query{a}", "mutation($b: C) { a }", "subscription { a }", "{ a }", "{", "fragment F on T { a }", "query )",
   ])
     for (const before of BEFORE) expect(`${before}"text" ${begin}`, before.length, `Unexpected ""text""${DESCRIPTION}`);
   for (const description of ['"text"', '""', '"query é𝄞"', '"""text"""', '"""\n query\n"""', '""""""']) {
@@ -65,10 +65,10 @@ test("nothing is said of another unexpected token, and of a description of anyth
     ["query (", '"b" $query: C) { a }'],
     ["", '"b"'],
     ["{ a } ", '"b" # query'],
-    ["", '"b" { a }'],
     ["", '"b" A { b: C }'],
     ["", '"b" "c" query Q { a }'],
     ["", '"b" "query" { a }'],
+    ["", '"b" } query { a }'],
     ["", '"b" """c""" type A { b: C }'],
     ["", '"b" queries Q { a }'],
     ["", '"b" Query { a }'],

@@ -7,15 +7,14 @@ use crate::{Limits, MAX_DEPTH};
 /// What is said of a schema, which this parser doesn't read.
 const SCHEMA: &str = ": this is a schema's definition, not a request's";
 /// What is said of the description of an operation or a fragment.
-const DESCRIPTION: &str =
-    ": this is a description before a request, which the specification of October 2021 doesn't have";
+const DESCRIPTION: &str = ": a description before a request isn't in the specification of October 2021";
 
 /// What is said of an unexpected token, from one byte to another, that begins a definition, or the description of one; nothing if
 /// it doesn't. What is before a definition is a document, or has no tokens.
 pub(crate) fn words_on(source: &str, start: usize, end: usize) -> &'static str {
     let token = &source[start..end];
-    let word = if token.starts_with('"') { first_token(&source[end..]) } else { token };
-    let words = words_of_definition(word);
+    let first = if token.starts_with('"') { first_token(&source[end..]) } else { token };
+    let words = words_of_definition(first);
     if !words.is_empty() && may_go_on(&source[..start]) {
         words
     } else {
@@ -23,12 +22,12 @@ pub(crate) fn words_on(source: &str, start: usize, end: usize) -> &'static str {
     }
 }
 
-/// What is said of a definition that begins with this word and that no document may have, or not with a description. An operation
+/// What is said of a definition that begins with this token and that no document may have, or not with a description. An operation
 /// or a fragment without a description begins at no unexpected token.
-fn words_of_definition(word: &str) -> &'static str {
-    match word {
+fn words_of_definition(token: &str) -> &'static str {
+    match token {
         "type" | "schema" | "extend" | "directive" | "scalar" | "interface" | "union" | "enum" | "input" => SCHEMA,
-        "query" | "mutation" | "subscription" | "fragment" => DESCRIPTION,
+        "query" | "mutation" | "subscription" | "fragment" | "{" => DESCRIPTION,
         _ => "",
     }
 }

@@ -27,7 +27,7 @@ fn lines(source: &str) -> String {
         Err(Error::Syntax(error)) => {
             let message = [
                 ": this is a schema's definition, not a request's",
-                ": this is a description before a request, which the specification of October 2021 doesn't have",
+                ": a description before a request isn't in the specification of October 2021",
             ]
             .iter()
             .fold(error.message.as_str(), |message, words| message.trim_end_matches(words));

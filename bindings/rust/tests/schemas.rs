@@ -3,8 +3,7 @@
 use firthnapkin::{parse, parse_within, tokens, Error, Limits, SyntaxError, MAX_DEPTH};
 
 const SCHEMA: &str = ": this is a schema's definition, not a request's";
-const DESCRIPTION: &str =
-    ": this is a description before a request, which the specification of October 2021 doesn't have";
+const DESCRIPTION: &str = ": a description before a request isn't in the specification of October 2021";
 
 fn error_of(source: &str, limits: Limits) -> SyntaxError {
     match parse_within(source, limits) {
@@ -45,9 +44,16 @@ fn schemas() {
 /// A description before an operation or a fragment is an error that says so.
 #[test]
 fn descriptions() {
-    for begin in
-        ["query Q { a }", "query{a}", "mutation($b: C) { a }", "subscription { a }", "fragment F on T { a }", "query )"]
-    {
+    for begin in [
+        "query Q { a }",
+        "query{a}",
+        "mutation($b: C) { a }",
+        "subscription { a }",
+        "{ a }",
+        "{",
+        "fragment F on T { a }",
+        "query )",
+    ] {
         for before in before_definitions() {
             let message = format!("Unexpected \"\"text\"\"{DESCRIPTION}");
             expect(&format!("{before}\"text\" {begin}"), before.len(), &message);
@@ -80,10 +86,10 @@ fn other_tokens() {
         ("query (", "\"b\" $query: C) { a }"),
         ("", "\"b\""),
         ("{ a } ", "\"b\" # query"),
-        ("", "\"b\" { a }"),
         ("", "\"b\" A { b: C }"),
         ("", "\"b\" \"c\" query Q { a }"),
         ("", "\"b\" \"query\" { a }"),
+        ("", "\"b\" } query { a }"),
         ("", "\"b\" \"\"\"c\"\"\" type A { b: C }"),
         ("", "\"b\" queries Q { a }"),
         ("", "\"b\" Query { a }"),
