@@ -77,7 +77,10 @@ func (o Operation) Complexity() (Complexity, error) {
 		// The document is a literal of the program's.
 		found = new(measured)
 	}
-	found.once.Do(func() { found.complexities, found.err = complexitiesOf(o.document.Source) })
+	found.once.Do(func() {
+		complexities, err := complexitiesOf(o.document.Source)
+		found.complexities, found.err = complexities, named(o.document.SourceName, err)
+	})
 	if found.err != nil {
 		return Complexity{}, found.err
 	}

@@ -61,10 +61,11 @@ type Node struct {
 
 // Document is a source's nodes, each part before the parts in it. Operations and Fragments begin with the parts by their names.
 type Document struct {
-	Source   string
-	Nodes    []Node
-	texts    string
-	measured *measured
+	Source     string
+	SourceName string // what ParseNamed was given, otherwise ""
+	Nodes      []Node
+	texts      string
+	measured   *measured
 }
 
 // Text returns the text of node i, as it is written.

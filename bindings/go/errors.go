@@ -61,13 +61,28 @@ type SyntaxError struct {
 	Character rune // the character of the Detail, otherwise 0
 	// The positions of a token, a spread or an operation, or of zero width. Their lines and columns are counted from 0.
 	Start, End Position
+	// The name of the source, or "" if it has none. A program may set it, as of an error of Tokens or Canonical, which know no name.
+	SourceName string
 
 	source string
 }
 
-// Error returns the message and the line and column, both counted from 1, as `Unexpected ")". At 2:5`. Columns count characters.
+// Error returns the message and the line and column, both counted from 1, as `Unexpected ")". At 2:5`. Columns count characters. The
+// name of the source is before them, if it has one, as it is: `Unexpected ")". At pets.graphql:2:5`.
 func (e *SyntaxError) Error() string {
-	return fmt.Sprintf("%s. At %d:%d", e.Message, e.Line(), e.Column())
+	name := e.SourceName
+	if name != "" {
+		name += ":"
+	}
+	return fmt.Sprintf("%s. At %s%d:%d", e.Message, name, e.Line(), e.Column())
+}
+
+// named gives a *SyntaxError the name of its source, and returns each error.
+func named(name string, err error) error {
+	if syntax, ok := err.(*SyntaxError); ok {
+		syntax.SourceName = name
+	}
+	return err
 }
 
 // Line returns the line, counted from 1. Lines end at line feeds.

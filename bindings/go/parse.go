@@ -109,6 +109,16 @@ func Parse(source string) (*Document, error) {
 	return ParseWithin(source, DefaultLimits)
 }
 
+// ParseNamed is ParseWithin of a source with a name, as that of its file. The document and a *SyntaxError have it as SourceName.
+func ParseNamed(name, source string, limits Limits) (*Document, error) {
+	document, err := ParseWithin(source, limits)
+	if err != nil {
+		return nil, named(name, err)
+	}
+	document.SourceName = name
+	return document, nil
+}
+
 // numbers are the fields of Limits: ints, in the order of the library's words, and then those on operations. In later words
 // of the library 0 is no limit.
 type numbers [unsafe.Sizeof(Limits{}) / unsafe.Sizeof(0)]int

@@ -208,7 +208,7 @@ func TestSyntaxErrors(t *testing.T) {
 	} {
 		found := refused(t, row.source, DefaultLimits.Depth)
 		message := row.message[:strings.LastIndex(row.message, ". At ")]
-		same(t, row.source, *found, SyntaxError{message, row.kind, row.detail, row.character, row.start, row.end, row.source})
+		same(t, row.source, *found, SyntaxError{message, row.kind, row.detail, row.character, row.start, row.end, "", row.source})
 		same(t, row.source, found.Error(), row.message)
 		same(t, row.source, fmt.Sprintf("%s. At %d:%d", message, found.Line(), found.Column()), row.message)
 	}

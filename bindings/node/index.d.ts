@@ -93,6 +93,8 @@ export interface NodeParts {
 /** A document: its parts by their names, and its nodes, each part before the parts in it. Each is made when one is read. */
 export interface Document extends Iterable<Node> {
   readonly source: string;
+  /** The name of the source, if `parse` was given one. */
+  readonly sourceName: string | null;
   /** How many nodes there are. */
   readonly length: number;
   readonly operations: Operation[];
@@ -271,7 +273,8 @@ export type ErrorDetail =
   | "unexpectedEndInToken";
 
 /**
- * Why a source isn't a document within the limits, and where. The message ends with the line and the column, as in `locations`.
+ * Why a source isn't a document within the limits, and where. The message ends with the line and the column, as in `locations`. The
+ * name of the source is before them, if the call was given one, as it is: `Unexpected ")". At pets.graphql:2:5`.
  */
 export class FirthnapkinError extends Error {
   private constructor();
@@ -289,6 +292,8 @@ export class FirthnapkinError extends Error {
   readonly locations: ReadonlyArray<{ readonly line: number; readonly column: number }>;
   /** The lines around the error, numbered from 1, with a caret below its character. Made anew each time. */
   readonly excerpt: string;
+  /** The name of the source, if the call was given one. */
+  readonly sourceName: string | null;
 }
 
 import { Options } from "./lib/limits.js";
@@ -297,7 +302,7 @@ export { Options };
 /**
  * The document that a source is. Throws a FirthnapkinError if it isn't one, a bracket is nested deeper, or a token is one too many,
  * before anything is built; at the first operation beyond a limit on operations, and with such a limit at a spread that one can't
- * be expanded with; a TypeError if the source is no string, a limit no number, or the options are no object or
+ * be expanded with; a TypeError if the source or its name is no string, a limit no number, or the options are no object or
  * have a name that `Options` lacks; a RangeError if a limit is no integer of its range; an Error if memory runs out.
  */
 export function parse(source: string, options?: Options): Document;
@@ -339,6 +344,13 @@ export interface Tokens extends Iterable<Token> {
 export interface TokenOptions {
   /** How many tokens the source may have, its end not counted; any number if it isn't given. */
   maxTokens?: number;
+  /** The name of the source, as that of its file: errors have it as `sourceName`. */
+  name?: string;
+}
+
+export interface CanonicalOptions {
+  /** The name of the source, as that of its file: errors have it as `sourceName`. */
+  name?: string;
 }
 
 /**
@@ -351,9 +363,10 @@ export function tokens(source: string, options?: TokenOptions): Tokens;
 /**
  * The canonical text of a source, one for each query whatever its white space and comments: its tokens as they are written, with a
  * space between two neighbours of which neither is a punctuator, and before `...` after a token that is no punctuator. Throws a
- * FirthnapkinError at the first position that has no token; a TypeError if the source is no string; an Error if memory runs out.
+ * FirthnapkinError at the first position that has no token; a TypeError if the source or its name is no string, or the options are
+ * no object or have another name; an Error if memory runs out.
  */
-export function canonical(source: string): string;
+export function canonical(source: string, options?: CanonicalOptions): string;
 
 /** The largest depth. */
 export const MAX_DEPTH: number;

@@ -4,7 +4,7 @@
 //     for (const field of parse("{ user(id: 4) { name } }").operation().selections) console.log(field.name, field.argument("id").value);
 "use strict";
 
-const { addon, allocate, limitsOf, requireString } = require("./lib/calls");
+const { addon, allocate, limitsOf, nameOf, requireString } = require("./lib/calls");
 const { Document, Node } = require("./lib/document");
 const { FirthnapkinError, bytesOf, checked } = require("./lib/errors");
 const { Token, Tokens, canonical, tokens } = require("./lib/lexer");
@@ -19,9 +19,9 @@ const { MAX_DEPTH, VERSION: version } = addon;
 function parse(source, options = {}) {
   requireString("source", source);
   const limits = limitsOf(options);
-  const bytes = bytesOf(source);
-  const found = checked(source, addon.parse(bytes, limits, allocate));
-  return new Document(source, bytes, found.parts, found.texts, found.complexities);
+  const name = nameOf(options);
+  const bytes = bytesOf(source, name);
+  return new Document(source, name, bytes, checked(source, name, addon.parse(bytes, limits, allocate)));
 }
 
 // Node finds the names of a literal for `import { parse } from "firthnapkin"`.

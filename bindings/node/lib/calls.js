@@ -58,17 +58,29 @@ function listed(names) {
   return [names.slice(0, -1).join(", "), ...names.slice(-1)].filter(Boolean).join(" and ");
 }
 
-// The numbers of the limits with these names, of which those that options don't have are the default ones.
+// The option that is no limit.
+const NAME = "name";
+
+// The numbers of the limits with these names, of which those that options don't have are the default ones. Options may have a name.
 function numbersOf(options, names) {
   if (typeOf(options) !== "object") throw new TypeError(`options must be an object, not ${typeOf(options)}`);
+  const known = [...names, NAME];
   for (const name of Reflect.ownKeys(options)) {
-    if (!names.includes(name)) throw new TypeError(`there is no option ${String(name)}, only ${listed(names)}`);
+    if (!known.includes(name)) throw new TypeError(`there is no option ${String(name)}, only ${listed(known)}`);
   }
   return names.map((name) => {
     const [standard, largest] = OPTIONS[name];
     const value = options[name];
     return value === undefined ? standard : integer(name, value, largest);
   });
+}
+
+// The name of the source that options have, and null if they have none.
+function nameOf(options) {
+  const name = options[NAME];
+  if (name === undefined) return null;
+  requireString(NAME, name);
+  return name;
 }
 
 // Limits as the library takes them, and those on sizes after them. In the words that have no limit 0 is none. No source has more of
@@ -100,4 +112,4 @@ function excerptAt(bytes, byte) {
   return Buffer.from(texts).utf8Slice();
 }
 
-module.exports = { addon, allocate, allocated, encoded, excerptAt, limitsOf, loosest, namesOf, numbersOf, requireString, typeOf };
+module.exports = { addon, allocate, allocated, encoded, excerptAt, limitsOf, loosest, nameOf, namesOf, numbersOf, requireString, typeOf };

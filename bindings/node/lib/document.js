@@ -165,12 +165,13 @@ class Document {
   #complexities;
   #byOperation;
 
-  constructor(source, bytes, nodes, texts, complexities) {
+  constructor(source, sourceName, bytes, { parts, texts, complexities }) {
     this.source = source;
+    this.sourceName = sourceName;
     this.#complexities = complexities;
     Object.defineProperties(this, {
       bytes: { value: bytes },
-      words: { value: new Uint32Array(nodes) },
+      words: { value: new Uint32Array(parts) },
       texts: { value: texts },
     });
     this.length = this.words.length / WORDS;
@@ -199,7 +200,7 @@ class Document {
   // How large the operation of a node is. They are found when one is first asked for, unless the source was parsed within limits
   // on them.
   complexityOf(index) {
-    this.#complexities ??= checked(this.source, addon.complexities(this.bytes, allocate)).complexities;
+    this.#complexities ??= checked(this.source, this.sourceName, addon.complexities(this.bytes, allocate)).complexities;
     this.#byOperation ??= byOperation(this.#complexities);
     return this.#byOperation.get(index);
   }

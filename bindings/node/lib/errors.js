@@ -22,9 +22,9 @@ const WITH_CHARACTER = ["unknownCharacter", "unexpectedCharacter", "unknownChara
 class FirthnapkinError extends Error {
   #source;
 
-  constructor(reason, found, source) {
+  constructor(reason, found, source, sourceName) {
     const [line, column] = [found.start.line + 1, found.start.column + 1];
-    super(`${reason}. At ${line}:${column}`);
+    super(`${reason}. At ${sourceName === null ? "" : `${sourceName}:`}${line}:${column}`);
     this.name = "FirthnapkinError";
     this.reason = reason;
     this.kind = found.kind;
@@ -33,6 +33,7 @@ class FirthnapkinError extends Error {
     this.start = found.start;
     this.end = found.end;
     this.locations = [{ line, column }];
+    this.sourceName = sourceName;
     this.#source = source;
   }
 
@@ -43,7 +44,7 @@ class FirthnapkinError extends Error {
 }
 
 // The error of half a surrogate pair at this index.
-function surrogate(source, index) {
+function surrogate(source, index, name) {
   const line = source.slice(0, index).split("\n").length - 1;
   const column = index - (source.lastIndexOf("\n", index) + 1);
   const byte = Buffer.byteLength(source.slice(0, index));
@@ -55,11 +56,11 @@ function surrogate(source, index) {
     start: { index, line, column, byte },
     end: { index: index + 1, line, column: column + 1, byte: byte + 3 },
   };
-  return new FirthnapkinError(`Lone surrogate U+${number}`, found, source);
+  return new FirthnapkinError(`Lone surrogate U+${number}`, found, source, name);
 }
 
 // The error that a call found: its numbers and its words.
-function errorOf(source, numbers, texts) {
+function errorOf(source, numbers, texts, name) {
   const words = new Uint32Array(numbers);
   const units = new Units(source);
   const detail = DETAILS[words[1]];
@@ -72,20 +73,20 @@ function errorOf(source, numbers, texts) {
   };
   let reason = Buffer.from(texts).utf8Slice();
   if (found.kind === "unexpectedToken") reason += wordsOn(source, found.start.index, found.end.index);
-  return new FirthnapkinError(reason, found, source);
+  return new FirthnapkinError(reason, found, source, name);
 }
 
-// The source as bytes, or an error if half of a surrogate pair is alone.
-function bytesOf(source) {
+// The source as bytes, or an error if half of a surrogate pair is alone. The name is the source's, or null.
+function bytesOf(source, name) {
   const alone = source.isWellFormed?.() ? -1 : source.search(/\p{Surrogate}/u);
-  if (alone >= 0) throw surrogate(source, alone);
+  if (alone >= 0) throw surrogate(source, alone, name);
   return encoded(source);
 }
 
 // What a call found, or an error.
-function checked(source, { status, parts, texts, complexities }) {
+function checked(source, name, { status, parts, texts, complexities }) {
   if (status === "ok") return { parts, texts: Buffer.from(texts), complexities };
-  if (WITH_ERROR.includes(status)) throw errorOf(source, parts, texts);
+  if (WITH_ERROR.includes(status)) throw errorOf(source, parts, texts, name);
   // No string has 4 GiB.
   throw new Error(`the library returned ${status}`);
 }

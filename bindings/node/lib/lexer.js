@@ -1,7 +1,7 @@
 // The tokens of a source, and its canonical text.
 "use strict";
 
-const { addon, allocate, excerptAt, namesOf, numbersOf, requireString } = require("./calls");
+const { addon, allocate, excerptAt, nameOf, namesOf, numbersOf, requireString } = require("./calls");
 const { bytesOf, checked } = require("./errors");
 const { Units } = require("./positions");
 
@@ -88,14 +88,17 @@ class Tokens {
 function tokens(source, options = {}) {
   requireString("source", source);
   const [maxTokens] = numbersOf(options, ["maxTokens"]);
-  const bytes = bytesOf(source);
-  return new Tokens(source, bytes, checked(source, addon.tokens(bytes, maxTokens, allocate)).parts);
+  const name = nameOf(options);
+  const bytes = bytesOf(source, name);
+  return new Tokens(source, bytes, checked(source, name, addon.tokens(bytes, maxTokens, allocate)).parts);
 }
 
 /** The canonical text of a source; index.d.ts says what is thrown. */
-function canonical(source) {
+function canonical(source, options = {}) {
   requireString("source", source);
-  return checked(source, addon.canonical(bytesOf(source), allocate)).texts.utf8Slice();
+  numbersOf(options, []);
+  const name = nameOf(options);
+  return checked(source, name, addon.canonical(bytesOf(source, name), allocate)).texts.utf8Slice();
 }
 
 module.exports = { Token, Tokens, canonical, tokens };

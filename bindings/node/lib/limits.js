@@ -1,4 +1,4 @@
-// The limits of `parse`: the options that it takes, and their types for TypeScript.
+// The limits of `parse`: the options that it takes beside the name of the source, and their types for TypeScript.
 "use strict";
 
 const { MAX_DEPTH } = require("../firthnapkin.node");
@@ -23,10 +23,13 @@ const SIZES = {
 };
 for (const [name, about] of Object.entries(SIZES)) SIZES[name] = [UNLIMITED, UNLIMITED - 1, about];
 
+const ABOUT_NAME = "The name of the source, as that of its file: errors have it as `sourceName`.";
+
 /** The text of limits.d.ts, which build.js writes. */
 function declaration() {
-  const members = Object.entries({ ...LIMITS, ...SIZES }).map(([name, [, , about]]) => `  /** ${about} */\n  ${name}?: number;\n`);
-  return `export interface Options {\n${members.join("")}}\n`;
+  const limits = Object.entries({ ...LIMITS, ...SIZES }).map(([name, [, , about]]) => [name, "number", about]);
+  const members = [...limits, ["name", "string", ABOUT_NAME]];
+  return `export interface Options {\n${members.map(([name, type, about]) => `  /** ${about} */\n  ${name}?: ${type};\n`).join("")}}\n`;
 }
 
 module.exports = { LIMITS, SIZES, UNLIMITED, declaration };

@@ -192,7 +192,7 @@ test("options", () => {
     if (options instanceof Map) assert.strictEqual(parse("{a}", options).length, 2);
     else assert.throws(() => parse("{a}", options), TypeError);
   }
-  assert.throws(() => parse("{a}", { dept: 5 }), { name: "TypeError", message: "there is no option dept, only depth, maxTokens, maxFields, maxAliases, maxDirectives, maxRootFields and maxFieldDepth" });
+  assert.throws(() => parse("{a}", { dept: 5 }), { name: "TypeError", message: "there is no option dept, only depth, maxTokens, maxFields, maxAliases, maxDirectives, maxRootFields, maxFieldDepth and name" });
   assert.throws(() => ["{a}"].map(parse), TypeError);
   for (const options of [undefined, {}, { depth: 1 }, { maxTokens: 3 }, { depth: undefined, maxTokens: undefined }, Object.create(null)])
     assert.strictEqual(parse("{a}", options).length, 2);

@@ -10,7 +10,7 @@ const { inspect } = require("util");
 const firthnapkin = require("..");
 const { declaration } = require("../lib/limits");
 
-const { parse, tokens, FirthnapkinError } = firthnapkin;
+const { parse, tokens, canonical, FirthnapkinError } = firthnapkin;
 
 // What a program may find at run time and has no use for.
 const INTERNAL = { Document: ["units", "parents", "between", "complexityOf"], Tokens: ["units"] };
@@ -139,13 +139,14 @@ const DOCUMENTS = [
 const ERRORS = [
   ["{ a ) }"], ["{"], ["{ \u00e9 }"], ["{a(b: 01)}"], ['{a(b: "'], ['{a(b: "\0")}'], ['{a(b: "\\q")}'], ["{a(b: -"], ["\ud800"],
   ["{a{b}}", { depth: 1 }], ["{a}", { maxTokens: 1 }], ["{ a b }", { maxFields: 1 }], ["{ ...A }", { maxFields: 1 }],
-  ["{ ...A } fragment A on T { ...A }", { maxFields: 1 }],
+  ["{ ...A } fragment A on T { ...A }", { maxFields: 1 }], ["{", { name: "pets.graphql" }],
 ];
 
 test("documents and nodes are what index.d.ts says", () => {
   for (const source of DOCUMENTS) {
     const document = parse(source);
     compared("Document", document);
+    compared("Document", parse(source, { name: "pets.graphql" }));
     for (const node of document) compared("Node", node);
     for (const part of [...document.operations, ...document.fragments]) comparedParts(part);
   }
@@ -197,7 +198,10 @@ test("limits.d.ts is of the list of limits, and index.d.ts exports its type", ()
 });
 
 test("the options are those of index.d.ts", () => {
-  for (const [type, call, wanted] of [["Options", parse, ["depth", "maxAliases", "maxDirectives", "maxFieldDepth", "maxFields", "maxRootFields", "maxTokens"]], ["TokenOptions", tokens, ["maxTokens"]]]) {
+  for (const [type, call, wanted] of [
+    ["Options", parse, ["depth", "maxAliases", "maxDirectives", "maxFieldDepth", "maxFields", "maxRootFields", "maxTokens", "name"]],
+    ["TokenOptions", tokens, ["maxTokens", "name"]], ["CanonicalOptions", canonical, ["name"]],
+  ]) {
     const options = objects.get(type);
     assert.deepStrictEqual(Array.from(options.keys()).sort(), wanted);
     assert.strictEqual(functions.get(call.name).parameters, `source: string, options?: ${type}`);

@@ -346,6 +346,7 @@ fn error_of(source: &str, error: &RawError) -> Result<SyntaxError, Error> {
         detail: ErrorDetail::of(error.detail, error.character),
         start: error.start,
         end: error.end,
+        source_name: None,
     })
 }
 

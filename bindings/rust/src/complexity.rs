@@ -131,5 +131,5 @@ fn too_large(operation: Node<'_, '_>, counted: &str, number: u32, limit: u32) ->
     };
     written.expect("a String takes all words");
     let (start, end) = (operation.start(), operation.end());
-    Ok(SyntaxError { message, kind: ErrorKind::OperationTooLarge, detail: None, start, end })
+    Ok(SyntaxError { message, kind: ErrorKind::OperationTooLarge, detail: None, start, end, source_name: None })
 }

@@ -19,6 +19,21 @@ pub enum Error {
     InvalidLimit,
 }
 
+impl Error {
+    /// The error with the name of its source, as that of its file. Only [`Error::Syntax`] has a name; other errors stay as they are.
+    ///
+    /// ```
+    /// let parse = |source, name: &str| firthnapkin::parse(source).map_err(|error| error.with_source_name(name));
+    /// assert_eq!(parse("{ a ) }", "pets.graphql").unwrap_err().to_string(), "Unexpected \")\". At pets.graphql:1:5");
+    /// ```
+    pub fn with_source_name(mut self, name: impl Into<String>) -> Self {
+        if let Error::Syntax(error) = &mut self {
+            error.source_name = Some(name.into());
+        }
+        self
+    }
+}
+
 /// Why a source isn't a document within the limits, and where.
 #[derive(Clone, Debug, PartialEq, Eq)]
 pub struct SyntaxError {
@@ -30,6 +45,8 @@ pub struct SyntaxError {
     /// The positions of a token, a spread or an operation, or of zero width. Lines and columns are counted from 0.
     pub start: Position,
     pub end: Position,
+    /// The name of the source, if [`Error::with_source_name`] gave it one.
+    pub source_name: Option<String>,
 }
 
 impl SyntaxError {
@@ -124,10 +141,15 @@ impl ErrorDetail {
     }
 }
 
-/// Writes the error and its line and column, both counted from 1, as `Unexpected ")". At 2:5`.
+/// Writes the error and its line and column, both counted from 1, as `Unexpected ")". At 2:5`. The name of the source is before
+/// them, if it was given one, as it is: `Unexpected ")". At pets.graphql:2:5`.
 impl fmt::Display for SyntaxError {
     fn fmt(&self, f: &mut fmt::Formatter<'_>) -> fmt::Result {
-        write!(f, "{}. At {}:{}", self.message, self.line(), self.column())
+        write!(f, "{}. At ", self.message)?;
+        if let Some(name) = &self.source_name {
+            write!(f, "{name}:")?;
+        }
+        write!(f, "{}:{}", self.line(), self.column())
     }
 }
 
