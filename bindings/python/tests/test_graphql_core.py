@@ -9,7 +9,7 @@ import unittest
 from typing import Any, Iterator, List, Tuple
 from unittest import mock
 
-from graphql_texts import WHOLE, answer, made_texts, row_texts  # skips if graphql-core 3.2 is not installed
+from graphql_texts import ASKED, USUAL, WHOLE, answer, made_texts, row_texts  # skips if graphql-core 3.2 is not installed
 
 import graphql
 from firthnapkin import graphql_core
@@ -44,22 +44,17 @@ class Texts(unittest.TestCase):
 
     def test_no_other_parser_is_asked(self) -> None:
         """Texts that both read alike are read by this package alone."""
-        with mock.patch.object(graphql_core, "own_parse", side_effect=AssertionError):
+        with mock.patch.object(graphql_core, "own_document", side_effect=AssertionError):
             for text in (WHOLE, "{a}", "{a(b:1 c:-0.5e3)}", "query($a:Int=1@d(x:2)){a(b:$a)}"):
                 self.assertIsInstance(graphql_core.parse(text), ast.DocumentNode)
 
     def test_the_other_parser_is_asked(self) -> None:
         """Each difference between the two, and each error."""
-        for text in [
-            "{a(b:1c:2)}", "{a(b:[1.5.c])}", "{a(b:1_:2)}", "query($a:Int @d(x:$b)){a}", "query($a:Int @d(x:[{y:$b}])){a}",
-            '{a(b:"\\ud83d\\ude00")}', '{a(b:"\\u{1F600}")}', "type T { a: B }", '"d" type T { a: B }', "{a b: }", "\ud800", "",
-            "extend schema @d", "fragment F($a: Int) on T { a }", '{a(b:"\x01")}', '"d" query Q { a }', 'query("d" $a: Int) { a }',
-            '"d" fragment F on T { a }', '"d" { a }',
-        ]:  # fmt: skip
+        for text in ASKED:
             with self.subTest(text=text):
-                with mock.patch.object(graphql_core, "own_parse", return_value="asked") as asked:
+                with mock.patch.object(graphql_core, "own_document", return_value="asked") as asked:
                     self.assertEqual(graphql_core.parse(text), "asked")
-                asked.assert_called_once_with(text, no_location=False, allow_legacy_fragment_variables=False)
+                asked.assert_called_once_with(text, USUAL, 200, None, mock.ANY)
                 self.same(text)
 
 

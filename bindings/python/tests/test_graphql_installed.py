@@ -13,7 +13,7 @@ from typing import Any
 from unittest import mock
 
 from helpers import resident
-from graphql_texts import WHOLE, answer, extension, made_texts, row_texts  # skips if graphql-core 3.2 is not installed
+from graphql_texts import USUAL, WHOLE, answer, extension, made_texts, row_texts  # skips if graphql-core 3.2 is not installed
 
 import graphql
 from firthnapkin import graphql_core
@@ -142,23 +142,23 @@ class Options(unittest.TestCase):
             self.assertEqual(answer(graphql_core.parse, text, max_tokens=3, **{name: value}),
                              answer(own_parse, text, max_tokens=3, **{name: value}))  # fmt: skip
             # It says nothing of requests, so these are read here.
-            with mock.patch.object(graphql_core, "own_parse", side_effect=AssertionError):
+            with mock.patch.object(graphql_core, "own_document", side_effect=AssertionError):
                 self.assertEqual(graphql_core.parse(WHOLE, **{name: value}), own_parse(WHOLE))
 
     def test_every_option_is_passed_on(self) -> None:
         for name in self.FURTHER:
             default = inspect.signature(own_parse).parameters[name].default
-            with mock.patch.object(graphql_core, "own_parse", return_value="asked") as asked:
+            with mock.patch.object(graphql_core, "own_document", return_value="asked") as asked:
                 self.assertEqual(graphql_core.parse("type T", **{name: default}), "asked")
-            asked.assert_called_once_with("type T", no_location=False, allow_legacy_fragment_variables=False, **{name: default})
+            self.assertEqual(asked.call_args[0][1], {**USUAL, name: default})
 
     def test_an_option_that_is_not_known(self) -> None:
         """One that a release has and this package doesn't know is passed on, and not answered here unless it is as by default."""
         signature = inspect.signature(lambda fragment_arguments=False, more=None: None)
         with mock.patch("firthnapkin._graphql_release._FURTHER", signature):
-            with mock.patch.object(graphql_core, "own_parse", return_value="asked") as asked:
+            with mock.patch.object(graphql_core, "own_document", return_value="asked") as asked:
                 self.assertEqual(graphql_core.parse("{a}", fragment_arguments=True), "asked")
-                asked.assert_called_once_with("{a}", no_location=False, allow_legacy_fragment_variables=False, fragment_arguments=True)
+                self.assertEqual(asked.call_args[0][1], {**USUAL, "fragment_arguments": True})
                 self.assertEqual(graphql_core.parse("{a}", False, None, False, False, 0), "asked")
                 self.assertIsInstance(graphql_core.parse("{a}", fragment_arguments=False, more=None), ast.DocumentNode)
                 self.assertIsInstance(graphql_core.parse("{a}", False, None, False, False), ast.DocumentNode)

@@ -17,7 +17,8 @@ from helpers import NO_SIZES, process, resident, words_of
 from graphql_texts import WHOLE, answer, extension, made_texts, row_texts  # skips if graphql-core 3.2 is not installed
 
 import graphql
-from firthnapkin import graphql_core
+from firthnapkin import _graphql_own, graphql_core
+from firthnapkin._graphql_release import Rules
 from firthnapkin.parser import LIMITS, parse
 from graphql import GraphQLSyntaxError, Source
 from graphql.language import Lexer, TokenKind, ast
@@ -45,17 +46,11 @@ class FirstParser(Parser):
         super().__init__(source, no_location=no_location, allow_legacy_fragment_variables=allow_legacy_fragment_variables)
 
 
-def first_parse(source: Any, no_location: bool = False, allow_legacy_fragment_variables: bool = False) -> Any:
-    """The parse of those releases."""
-    return FirstParser(source, no_location, allow_legacy_fragment_variables).parse_document()
-
-
 @contextmanager
 def first_release() -> Iterator[None]:
     with ExitStack() as stack:
-        stack.enter_context(mock.patch.object(graphql_core, "own_parse", first_parse))
-        stack.enter_context(mock.patch.object(graphql_core, "Parser", FirstParser))
-        stack.enter_context(mock.patch.object(graphql_core, "_COUNTS_TOKENS", False))
+        stack.enter_context(mock.patch.object(_graphql_own, "Parser", FirstParser))
+        stack.enter_context(mock.patch.object(_graphql_own, "RULES", Rules(False, False, False, 0)))
         stack.enter_context(mock.patch.object(graphql_core, "_graphql_core", extension((False, False, 0))))
         yield
 
@@ -63,9 +58,8 @@ def first_release() -> Iterator[None]:
 @contextmanager
 def nobody_else() -> Iterator[None]:
     """graphql-core's own parser fails when it is called."""
-    with mock.patch.object(graphql_core, "own_parse", side_effect=AssertionError("asked")):
-        with mock.patch.object(graphql_core, "Parser", side_effect=AssertionError("asked")):
-            yield
+    with mock.patch.object(graphql_core, "own_document", side_effect=AssertionError("asked")):
+        yield
 
 
 def releases() -> List[Any]:
@@ -261,7 +255,7 @@ class Verdicts(unittest.TestCase):
             own = self.same(text, most)
             if isinstance(own, tuple) and own[1] == too_many(most):
                 refused += 1
-                with mock.patch.object(graphql_core, "own_parse", return_value="asked"):
+                with mock.patch.object(graphql_core, "own_document", return_value="asked"):
                     ours += answer(graphql_core.parse, text, max_tokens=most, depth=1000) == own
         self.assertGreater(refused, 2000)
         self.assertGreater(ours, refused * 0.95)
@@ -306,17 +300,6 @@ class Verdicts(unittest.TestCase):
         for release in releases():
             with release():
                 self.assertEqual(graphql_core.parse("type T { a: B }", max_tokens=7), own_parse("type T { a: B }"))
-
-    def test_what_is_asked(self) -> None:
-        """The limit is passed on. If it can't be, tokens are counted."""
-        self.assertIs(graphql_core._COUNTS_TOKENS, HAS_OPTION)
-        with mock.patch.object(graphql_core, "own_parse", return_value="asked") as asked:
-            with mock.patch.object(graphql_core, "_COUNTS_TOKENS", True):
-                self.assertEqual(graphql_core.parse("{a ) }", True, 3), "asked")
-            asked.assert_called_once_with("{a ) }", max_tokens=3, no_location=True, allow_legacy_fragment_variables=False)
-            with mock.patch.object(graphql_core, "_COUNTS_TOKENS", False):
-                self.assertEqual(graphql_core.parse("type T{a:B}", True, 7).definitions[0].loc, None)
-            asked.assert_called_once()
 
 
 class BothLimits(unittest.TestCase):

@@ -85,7 +85,7 @@ class Parses(unittest.TestCase):
 
     def test_one_call(self) -> None:
         """A text within the limits is read once, and graphql-core's own parser is not called."""
-        with mock.patch.object(graphql_core, "own_parse", side_effect=AssertionError):
+        with mock.patch.object(graphql_core, "own_document", side_effect=AssertionError):
             with mock.patch.object(graphql_core._parser, "parse", side_effect=AssertionError):
                 self.assertEqual(graphql_core.parse(TWO, max_fields=7), own_parse(TWO))
                 self.assertEqual(graphql_core.parse(WHOLE.replace("F @k", "F @k @l"), max_directives=99).kind, "document")
@@ -139,7 +139,7 @@ class OwnParser(unittest.TestCase):
             ("# é𝄞\n{ a } query B { a b }", {"max_fields": 1}, 'Too many fields in operation "B": 2, with a limit of 1.', 11),
             ("{ ...A }", {"max_aliases": 9}, "Unknown fragment.", 2),
             ("{ ...A } fragment A on T { ...A }", {"max_aliases": 9}, "Fragment spread within itself.", 27),
-            ("{a{b{c}}}", {"max_field_depth": 2, "depth": 2}, "Too many levels of fields in an operation without a name: 3, with a limit of 2.", 0),
+            ("{a{b{c}}}", {"max_field_depth": 2}, "Too many levels of fields in an operation without a name: 3, with a limit of 2.", 0),
         ]:  # fmt: skip
             with self.subTest(text=text[:40]):
                 with self.assertRaises(GraphQLError) as raised:
@@ -157,30 +157,33 @@ class OwnParser(unittest.TestCase):
             graphql_core.parse("{ a b }", allow_legacy_fragment_variables=legacy, max_fields=2)
 
     def test_what_only_graphql_core_reads(self) -> None:
-        """Its operations are refused, since nothing says how large they are. Without operations there is nothing to limit."""
-        words = "The operations of this document can't be measured."
-        for text, index, options in [
-            ("type T { a: B } { a }", 16, {}),
-            ("{ a } type T { a: B } { b }", 0, {}),
-            ("{ a } fragment F($b: Int) on T { a }", 0, {"allow_legacy_fragment_variables": True}),
-            ("{ ...X } type T { a: B }", 0, {}),
-        ]:
+        """Its operations have the limits, and the errors are in the words of this package. Without operations nothing is limited."""
+        for text, index, options, words in [
+            ("type T { a: B } { a }", 16, {}, "Too many fields in an operation without a name: 1, with a limit of 0."),
+            ("{ a } type T { a: B } { b }", 0, {}, "Too many fields in an operation without a name: 1, with a limit of 0."),
+            ("query Q { ...F } fragment F($b: Int) on T { a b }", 0, {"allow_legacy_fragment_variables": True},
+             'Too many fields in operation "Q": 2, with a limit of 0.'),
+            ("{ ...X } type T { a: B }", 2, {}, "Unknown fragment."),
+            ("type T { a: B } query { a ...F } fragment F on T { ...F }", 51, {}, "Fragment spread within itself."),
+        ]:  # fmt: skip
             self.assertEqual(graphql_core.parse(text, **options), own_parse(text, **options))
-            for name in SIZES:
-                self.assertEqual(
-                    refusal(graphql_core.parse, text, **{name: 2**32 - 2}, **options), (GraphQLError, words, [index])
-                )
-                self.assertEqual(graphql_core.parse(text, **{name: None}, **options), own_parse(text, **options))
-        for text in ("type T { a: B }", '"d" directive @d on FIELD fragment F on T { a }'):
+            for no_location in (False, True):
+                found = refusal(graphql_core.parse, text, no_location, max_fields=0, **options)
+                self.assertEqual(found, (GraphQLError, words, [index]))
+            if "many" in words:
+                own = own_parse(text, **options)
+                self.assertEqual(graphql_core.parse(text, **dict.fromkeys(SIZES, 2), **options), own)
+                own = own_parse(text, True, **options)
+                self.assertEqual(graphql_core.parse(text, True, **dict.fromkeys(SIZES, 2), **options), own)
+                self.assertIsNone(graphql_core.parse(text, True, max_fields=2, **options).loc)
+        for text in ("type T { a: B }", '"d" directive @d on FIELD fragment F on T { a ...F }'):
             self.assertEqual(graphql_core.parse(text, max_fields=0), own_parse(text))
-        surrogate = "{ a #\ud800\n }"
-        own = answer(own_parse, surrogate)
-        wanted = (GraphQLError, words) if isinstance(own, ast.DocumentNode) else own
-        try:
-            found = answer(graphql_core.parse, surrogate, max_fields=9)
-        except UnicodeEncodeError:
-            self.fail("a lone surrogate is no error of this package")
-        self.assertEqual(found[:1], wanted[:1])
+
+    def test_lone_surrogates(self) -> None:
+        """They are no error of this package."""
+        for text in ("{ a #\ud800\n }", '{ a(b: "\ud800") }', '{ a(b: "\ud83d\ude00") }'):
+            own = answer(own_parse, text)
+            self.assertEqual(answer(graphql_core.parse, text, max_fields=1), own)
 
 
 class Installed(unittest.TestCase):

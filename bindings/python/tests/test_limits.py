@@ -9,7 +9,7 @@ from unittest import mock
 import firthnapkin
 from firthnapkin import MAX_DEPTH, canonical, parse, tokens
 from firthnapkin.__main__ import options_of
-from firthnapkin.limits import Limit, Limits, SizeLimit, has_sizes, packed, with_loosest
+from firthnapkin.limits import Limit, Limits, SizeLimit, has_sizes, packed, sizes_of
 from firthnapkin.parser import LIMITS
 from helpers import LOW_LIMITS, NO_LIMITS, NO_SIZES, words_of
 
@@ -152,13 +152,12 @@ class Tables(unittest.TestCase):
             self.assertEqual(words_of(limits.packed({**limits.defaults, **given})), (own, *[0] * 7, *sizes, *NO_SIZES[2:]))
 
     def test_parts(self) -> None:
-        """Whether there is a limit on sizes, and the same ones with the loosest others."""
+        """Whether there is a limit on sizes, and those limits alone."""
         self.assertFalse(has_sizes(packed(5, 6)) or has_sizes(LIMITS.packed(LIMITS.defaults)))
         for name in SIZES:
             limits = LIMITS.packed({**LIMITS.defaults, name: 4, "depth": 3, "max_tokens": 2})
             self.assertTrue(has_sizes(limits))
-            words = words_of(limits)
-            self.assertEqual(words_of(with_loosest(limits)), (1000, LARGEST_WORD, *words[2:]))
+            self.assertEqual(sizes_of(limits), words_of(limits)[8:])
 
     def test_tool(self) -> None:
         """The tool has an option for each limit, with its default."""

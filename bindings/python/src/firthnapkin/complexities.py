@@ -23,7 +23,8 @@ class Complexity(NamedTuple):
     fields: int
     #: The fields with an alias.
     aliases: int
-    #: The directives of the operation, of what is selected, and of a fragment each time that it is spread.
+    #: The directives of the operation, of its variable definitions, of what is selected, and of a fragment each time that it is
+    #: spread.
     directives: int
     #: The fields that are in no other field.
     root_fields: int

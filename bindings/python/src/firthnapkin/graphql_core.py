@@ -3,9 +3,9 @@
     from firthnapkin import graphql_core
     graphql_core.install()
 
-`parse` gives the results of graphql-core's own: its nodes, with their locations, and its errors. graphql-core's own parser is
-called if a text is no document for this package's parser, and if graphql-core may read it otherwise. Only texts beyond a
-limit, on nesting, on the number of tokens or on how large operations are, are reported here.
+`parse` returns what graphql-core's own returns: its nodes, with their locations, and its errors. graphql-core's own parser is
+called if a text is no document for this package's parser, and if graphql-core may read it otherwise. The limits, on nesting, on
+the number of tokens and on how large operations are, hold for both parsers.
 """
 
 from __future__ import annotations
@@ -13,26 +13,20 @@ from __future__ import annotations
 import functools
 import operator
 import sys
-from typing import Any, Callable, Dict, List, Mapping, Optional, Tuple, Union
+from typing import Any, Callable, List, Mapping, Optional, Tuple, Union
 
-from ._graphql_release import RULES, further_options, may_change_requests  # first: it checks the release
+from ._graphql_release import further_options, may_change_requests  # first: it checks the release
 
-from graphql.error import GraphQLError, GraphQLSyntaxError
-from graphql.language import Lexer, Source, Token, TokenKind, ast
-from graphql.language.parser import Parser
+from graphql.error import GraphQLError
+from graphql.language import Source, ast
 from graphql.language.parser import parse as own_parse
 
 from . import _graphql_core, _parser
 from ._graphql_nodes import Location
-from .calls import given
-from .errors import ErrorKind, FirthnapkinError
-from .limits import has_sizes, with_loosest
+from ._graphql_own import own_document, too_deep, too_little_stack, too_many
 from .parser import LIMITS
 
 __all__ = ["Location", "install", "parse", "uninstall"]
-
-# The first releases of graphql-core 3.2 have no limit on tokens.
-_COUNTS_TOKENS = RULES.has_limit
 
 
 def parse(
@@ -52,27 +46,32 @@ def parse(
     """Returns graphql-core's DocumentNode of a source.
 
     The arguments are those of the installed graphql-core's parse, `max_tokens` with every release, `depth`, which is how
-    deep brackets may be nested, and the limits on operations of `firthnapkin.parse`. Raises GraphQLSyntaxError as graphql-core
-    does, and at the first token that is nested deeper. With `max_tokens` a text with more is refused at the first token too
-    many, before any node is made. What counts against it, comments for instance, is what counts in the installed release.
+    deep brackets may be nested, and the limits on operations of `firthnapkin.parse`. The limits hold for each text, whichever
+    parser reads it. What counts against `max_tokens`, comments for instance, is what counts in the installed release.
 
-    Raises GraphQLError at the first operation beyond a limit on operations, at a spread that one can't be expanded with, and
-    where such limits are given and graphql-core alone reads the operations. Raises TypeError if a limit is no int, and for an
-    argument that graphql-core's parse doesn't have; ValueError if the depth is below 0 or above MAX_DEPTH, or another limit
-    below 0. A `max_tokens` that is no int is passed to graphql-core, which accepts or refuses it.
+    Raises GraphQLSyntaxError as graphql-core does; at the first token past `depth` or `max_tokens`, before anything from there on
+    is parsed; and at the token that was reached when graphql-core's parser, which recurses, had no more room on the stack.
+    Raises GraphQLError at the first operation past a limit on operations, and at a spread that one can't be expanded with.
+    Raises TypeError if a limit is no int, and for an argument that graphql-core's parse doesn't have; ValueError if the depth
+    is below 0 or above MAX_DEPTH, or another limit below 0. A `max_tokens` that is no int is compared with the number of tokens
+    as graphql-core compares it.
     """
-    limits = _LIMITS.packed(locals())
-    further = further_options(others, options) if others or options else {}
-    body = source.body if isinstance(source, Source) else source
-    is_limit = max_tokens is None or type(max_tokens) is int
-    if type(body) is str and is_limit and not allow_legacy_fragment_variables and not (further and may_change_requests(further)):
-        found = _document(source if isinstance(source, Source) else Source(body), no_location, max_tokens, depth, limits)
-        if found is not None:
-            return found
-    document = _own_document(source, no_location, max_tokens, allow_legacy_fragment_variables, further)
-    if has_sizes(limits):
-        _require_small(source if isinstance(source, Source) else Source(body), document, limits)
-    return document
+    try:
+        limits = _LIMITS.packed(locals())
+        further = further_options(others, options) if others or options else {}
+        body = source.body if isinstance(source, Source) else source
+        is_limit = max_tokens is None or type(max_tokens) is int
+        is_usual = not allow_legacy_fragment_variables and not (further and may_change_requests(further))
+        if type(body) is str and is_limit and is_usual:
+            found = _document(source if isinstance(source, Source) else Source(body), no_location, max_tokens, depth, limits)
+            if found is not None:
+                return found
+        own = {"no_location": no_location, "allow_legacy_fragment_variables": allow_legacy_fragment_variables, **further}
+        return own_document(source, own, operator.index(depth), max_tokens, limits)
+    except RecursionError:
+        pass
+    # The caller has left too little of the stack to call either parser.
+    raise too_little_stack(source if isinstance(source, Source) else Source(source), 0)
 
 
 # `max_tokens` is none of them: the extension has it beside them, for what counts in the installed release.
@@ -84,7 +83,7 @@ def _document(
 ) -> Optional[ast.DocumentNode]:
     """Returns the document of a source, or None if graphql-core's own parser has to be called.
 
-    Raises GraphQLSyntaxError if a limit is exceeded, and GraphQLError if it is one on operations.
+    Raises GraphQLSyntaxError past a limit, and GraphQLError past one on operations.
     """
     try:
         written = origin.body.encode()
@@ -99,72 +98,8 @@ def _document(
     if isinstance(why, str):
         raise GraphQLError(f"{why}.", source=origin, positions=[index])
     if why:
-        raise GraphQLSyntaxError(origin, index, f"Brackets are nested deeper than {operator.index(depth)}.")
-    raise _too_many(origin, index, max_tokens)
-
-
-def _too_many(source: Source, index: int, max_tokens: Optional[int]) -> GraphQLSyntaxError:
-    """Returns an error in the words of graphql-core."""
-    return GraphQLSyntaxError(source, index, f"Document contains more than {max_tokens} tokens. Parsing aborted.")
-
-
-def _require_small(origin: Source, document: ast.DocumentNode, limits: bytes) -> None:
-    """Raises GraphQLError if an operation of a document that graphql-core's own parser read is beyond a limit.
-
-    It does so, too, if this package's parser doesn't read the text, and so can't say how large the operations are.
-    """
-    operations = [it for it in document.definitions if isinstance(it, ast.OperationDefinitionNode)]
-    if not operations:
-        return
-    try:
-        given(origin.body, *_parser.parse(str.encode(origin.body), with_loosest(limits))[:3])
-    except FirthnapkinError as error:
-        if error.kind not in _LARGE:
-            raise GraphQLError("The operations of this document can't be measured.", operations[:1]) from None
-        raise GraphQLError(f"{error.message}.", source=origin, positions=[error.start.index]) from None
-
-
-# The errors of documents.
-_LARGE = (ErrorKind.OPERATION_TOO_LARGE, ErrorKind.UNKNOWN_FRAGMENT, ErrorKind.FRAGMENT_CYCLE)
-
-
-class _CountedLexer(Lexer):
-    """A lexer that ends at the first token too many, for a parser that doesn't count."""
-
-    def __init__(self, source: Source, max_tokens: int) -> None:
-        super().__init__(source)
-        self._max_tokens = max_tokens
-        self._count = 0
-
-    def advance(self) -> Token:
-        token = super().advance()
-        if token.kind is not TokenKind.EOF:
-            self._count += 1
-            if self._count > self._max_tokens:
-                raise _too_many(self.source, token.start, self._max_tokens)
-        return token
-
-
-def _own_document(
-    source: Union[Source, str],
-    no_location: bool,
-    max_tokens: Optional[int],
-    allow_legacy_fragment_variables: bool,
-    further: Mapping[str, Any],
-) -> ast.DocumentNode:
-    """Returns the document by graphql-core's own parser. Raises the error of that parser."""
-    options: Dict[str, Any] = {
-        "no_location": no_location,
-        "allow_legacy_fragment_variables": allow_legacy_fragment_variables,
-        **further,
-    }
-    if max_tokens is None:
-        return own_parse(source, **options)
-    if _COUNTS_TOKENS:
-        return own_parse(source, max_tokens=max_tokens, **options)
-    parser = Parser(source, **options)
-    parser._lexer = _CountedLexer(parser._lexer.source, max_tokens)
-    return parser.parse_document()
+        raise too_deep(origin, index, operator.index(depth))
+    raise too_many(origin, index, max_tokens)
 
 
 # What install has replaced: the modules, and the names in them. And what it has put there last.

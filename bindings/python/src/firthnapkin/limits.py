@@ -6,7 +6,7 @@ import copy
 import inspect
 import operator
 import struct
-from typing import Any, Callable, Dict, List, Optional, get_args, get_type_hints
+from typing import Any, Callable, Dict, List, Optional, Tuple, get_args, get_type_hints
 
 from . import _parser
 
@@ -113,9 +113,9 @@ def has_sizes(limits: bytes) -> bool:
     return limits[_parser.LIMITS_SIZE :] != packed()[_parser.LIMITS_SIZE :]
 
 
-def with_loosest(limits: bytes) -> bytes:
-    """Returns the limits on sizes of these, with the loosest of the others."""
-    return packed(_parser.MAX_DEPTH, _parser.MAX_TOKENS)[: _parser.LIMITS_SIZE] + limits[_parser.LIMITS_SIZE :]
+def sizes_of(limits: bytes) -> Tuple[int, ...]:
+    """Returns the limits on sizes of these, in the order of a Complexity. The largest number is no limit."""
+    return _LAYOUT.unpack(limits)[_WORDS:]
 
 
 def _named(function: Callable[..., object]) -> List[inspect.Parameter]:
