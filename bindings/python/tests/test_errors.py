@@ -175,9 +175,29 @@ class Schemas(unittest.TestCase):
                     error = error_of(f"{before}{word} A {{ b: C }}")
                     self.assertEqual(error.message, f'Unexpected "{word}": this is a schema\'s definition, not a request\'s')
                     self.assertEqual((error.kind, error.start.index, error.is_schema), (ErrorKind.UNEXPECTED_TOKEN, len(before), True))
-        for written in ('"A"', '"""A\n B"""'):
-            error = error_of(f"{{ a }} {written} type A {{ b: C }}")
-            self.assertEqual(error.message, f'Unexpected "{written}": this is a schema\'s definition, not a request\'s')
+        for written in ('"A"', '"""A\n B"""', '""'):
+            for between in (" ", "", "\ufeff,\t\r\n", "# query\r#{\n ", "#{\r"):
+                for word in ("type", "schema", "enum"):
+                    error = error_of(f"{{ a }} {written}{between}{word} A {{ b: C }}")
+                    self.assertEqual(error.message, f'Unexpected "{written}": this is a schema\'s definition, not a request\'s')
+                    self.assertTrue(error.is_schema)
+
+    def test_described_requests(self) -> None:
+        """A description before a request is none before a schema's definition, and the message says what it is."""
+        for written in ('"A"', '"""A\n B"""', '""'):
+            for between in (" ", "", "\ufeff,\t\r\n", "# type\r#\n ", "#\r"):
+                for request in ("query { a }", "mutation M { a }", "subscription { a }", "fragment F on T { a }", "{ a }", "query"):
+                    for before in ("", "# A\n", "{ a }\n"):
+                        error = error_of(f"{before}{written}{between}{request} type")
+                        words = "a description before a request isn't in the specification of October 2021"
+                        self.assertEqual(error.message, f'Unexpected "{written}": {words}')
+                        self.assertEqual((error.start.index, error.is_schema), (len(before), False))
+
+    def test_descriptions_of_nothing(self) -> None:
+        """Neither a schema's definition nor a request is after them."""
+        for after in ("", " a", " querytype", " queries { a }", " Query { a }", ' "b" type T', " }", " (", "# type\n", " type1", " 1"):
+            error = error_of(f'"a"{after}')
+            self.assertEqual((error.message, error.is_schema), ('Unexpected ""a""', False))
 
     def test_other_errors(self) -> None:
         """The same words elsewhere, and other words, are no schema."""

@@ -50,8 +50,10 @@ def lines(document: firthnapkin.Document) -> List[str]:
 
 
 def refusal(error: firthnapkin.FirthnapkinError) -> str:
-    """The line that gqlcheck writes for an error: its line and its column count from 0, and it says nothing of schemas."""
+    """The line that gqlcheck writes for an error: its line and its column count from 0, and it says nothing of schemas and
+    descriptions."""
     message = error.message.replace(": this is a schema's definition, not a request's", "")
+    message = message.replace(": a description before a request isn't in the specification of October 2021", "")
     return f"{message}. At {error.start.line}:{error.start.column}"
 
 

@@ -134,7 +134,7 @@ class Checks(Tool):
 
 class Schemas(Tool):
     def test_skipped(self) -> None:
-        """A file in which a definition is a schema's, or has a description, is skipped and counted, in each command."""
+        """A file in which a definition is a schema's, with a description or without, is skipped and counted, in each command."""
         for word in "type schema extend directive scalar interface union enum input".split():
             self.write(f"schemas/{word}.graphql", f"# A\n{{ a }}\n{word} A {{ b: C }}".encode())
         self.write("schemas/described.graphql", b'"A" type B { c: D }')
@@ -150,6 +150,21 @@ class Schemas(Tool):
         self.assertEqual((found.returncode, found.stdout), (0, b""))
         self.assertEqual(found.stderr.decode(), "schema.graphql: skipped, since it is a schema\n"
                          "1 file: 0 passed, 0 failed, 1 skipped as schemas, 0 not read\n")  # fmt: skip
+
+    def test_described_requests(self) -> None:
+        """A file with a description before a request is no schema: it is reported."""
+        words = "a description before a request isn't in the specification of October 2021"
+        self.write("described.graphql", b'"A" query { a }')
+        self.write("shorthand.graphql", b'{ a }\n"""A\n"""\n{ b }')
+        self.write("nothing.graphql", b'"A"')
+        for name, shown in [
+            ("described", f'1:1: Unexpected ""A"": {words}\n1 | "A" query {{ a }}\n  | ^\n'),
+            ("shorthand", f'2:1: Unexpected """"A\n"""": {words}\n1 | {{ a }}\n2 | """A\n  | ^\n3 | """\n'),
+            ("nothing", '1:1: Unexpected ""A""\n1 | "A"\n  | ^\n'),
+        ]:
+            self.assertEqual(self.tool("check", f"{name}.graphql"), (1, f"{name}.graphql:{shown}"))
+        status, found = self.objects("check", "described.graphql")
+        self.assertEqual((status, found[0]["status"], found[0]["message"]), (1, "failed", f'Unexpected ""A"": {words}'))
 
     def test_strict(self) -> None:
         self.assertEqual(self.tool("check", "schema.graphql", "--strict"), (

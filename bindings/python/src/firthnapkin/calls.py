@@ -7,7 +7,7 @@ from typing import Optional, Tuple
 
 from .errors import ErrorDetail, ErrorKind, FirthnapkinError
 from .parts import Position
-from .schemas import begins_schema
+from .schemas import note_on
 
 # The statuses of the library.
 _OK, _SYNTAX_ERROR, _TOO_DEEP, _TOO_MANY_TOKENS, _SOURCE_TOO_LONG, _UNKNOWN_FRAGMENT, _FRAGMENT_CYCLE = 0, 1, 4, 5, 7, 10, 11
@@ -52,8 +52,8 @@ def _error(source: str, numbers: bytes, words: bytes, name: Optional[str]) -> Fi
     kind, detail, character, *positions = _ERROR.unpack(numbers)[:11]
     start, end = Position(*positions[:4]), Position(*positions[4:])
     message = words.decode()
-    if kind == ErrorKind.UNEXPECTED_TOKEN.value and begins_schema(source, start.index, end.index):
-        message += ": this is a schema's definition, not a request's"
+    if kind == ErrorKind.UNEXPECTED_TOKEN.value:
+        message += note_on(source, start.index, end.index)
     return FirthnapkinError(
         message,
         ErrorKind(kind),
