@@ -54,11 +54,11 @@ WORDS = [
     "\ud800", "type T { a: B }", '"d"', "&", "|", "01", "1.5", "=", ":", ",",
 ]  # fmt: skip
 
-# Texts that only graphql-core's own parser is asked for: one for each difference between the two, and some with errors.
+# Texts that graphql-core's own parser is asked for: one for each difference between the two, and some with errors.
 ASKED = [
     "{a(b:1c:2)}", "{a(b:[1.5.c])}", "{a(b:1_:2)}", "query($a:Int @d(x:$b)){a}", "query($a:Int @d(x:[{y:$b}])){a}",
-    '{a(b:"\\ud83d\\ude00")}', '{a(b:"\\u{1F600}")}', "type T { a: B }", '"d" type T { a: B }', "{a b: }", "\ud800", "",
-    "extend schema @d", "fragment F($a: Int) on T { a }", '{a(b:"\x01")}', '"d" query Q { a }', 'query("d" $a: Int) { a }',
+    '{a(b:"\\ud83d\\ude00")}', '{a(b:"\\u{1F600}")}', "type T { a: B }", '"d" type T { a: B }', "{a ? b}", "\ud800",
+    "extend schema @d", "query($a:Int=$b){c}", '{a(b:"\x01")}', '"d" query Q { a }', 'query("d" $a: Int) { a }',
     '"d" fragment F on T { a }', '"d" { a }',
 ]  # fmt: skip
 

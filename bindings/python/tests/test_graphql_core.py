@@ -49,7 +49,7 @@ class Texts(unittest.TestCase):
                 self.assertIsInstance(graphql_core.parse(text), ast.DocumentNode)
 
     def test_the_other_parser_is_asked(self) -> None:
-        """Each difference between the two, and each error."""
+        """Each difference between the two, and errors that may be another one in graphql-core."""
         for text in ASKED:
             with self.subTest(text=text):
                 with mock.patch.object(graphql_core, "own_document", return_value="asked") as asked:

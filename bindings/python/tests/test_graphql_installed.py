@@ -195,7 +195,7 @@ class Rules(unittest.TestCase):
     @staticmethod
     def places(module: Any, text: str, limit: int) -> Any:
         found = module.document(text.encode(), len(text), packed(200), None, limit)
-        return found if found is None or isinstance(found, tuple) else None
+        return found if isinstance(found, tuple) and isinstance(found[1], bool) else None
 
     def test_written_rows(self) -> None:
         alone, with_comments = extension((False, False, 1)), extension((True, True, 2))
@@ -225,7 +225,7 @@ class Rules(unittest.TestCase):
         """The tokens that are counted are freed, whether there are too many, or the text is no document, or it is one."""
         module = extension((True, True, 2))
         many, whole = b"} " + b"a " * 200_000 + b"#", b"{" + b"a " * 50_000 + b"}#"
-        for text, limit, kind in [(many, 10**6, type(None)), (many, 150_000, type(None)), (whole, 2**32 - 1, ast.DocumentNode),
+        for text, limit, kind in [(many, 10**6, tuple), (many, 150_000, type(None)), (whole, 2**32 - 1, ast.DocumentNode),
                                   (b"{" + many[2:], 200_001, tuple)]:  # fmt: skip
             for i in range(14):
                 self.assertIsInstance(module.document(text, len(text), packed(200), None, limit), kind)

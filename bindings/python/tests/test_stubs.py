@@ -130,7 +130,8 @@ class Compared(unittest.TestCase):
         self.same_types(_graphql_core.document, kinds[:3], [b"{a}", 3, packed(5), None, 9])
         self.same_types(lambda tokens: _graphql_core.document(b"{a}", 3, packed(5), None, tokens), kinds[4:], [9])
         found = [_graphql_core.document(text, 3, packed(1), None, 9) for text in (b"{a}", b"{{{", b"?")]
-        self.assertEqual([type(it) for it in found], [DocumentNode, type(None), type(None)])
+        self.assertEqual([type(it) for it in found], [DocumentNode, tuple, type(None)])
+        self.assertEqual(found[1], (1, b"{ ", 2))
         found.append(_graphql_core.document(b"{a{", 3, packed(1), None, 9))
         self.assertEqual(found[-1], (2, True))
         found.append(_graphql_core.document(b"{...A}", 6, packed(1, 1, 0, 0, 0, 0, 0, 0, 1), None, 9))

@@ -1,5 +1,5 @@
 /* graphql-core's nodes of a source that both parsers read alike, for graphql_core.py. */
-#include "_graphql_limits.h"
+#include "_graphql_errors.h"
 #include "_slots.h"
 
 /* ---- the document */
@@ -58,8 +58,9 @@ PyDoc_STRVAR(document_doc,
              "origin is the Source of its locations, or None if it has no locations. A limit of MAX_TOKENS tokens is none, and one\n"
              "below 0 is -1. Returns None if graphql-core's own parser has to be called. If a limit is exceeded, returns the index\n"
              "of the first token beyond it, and whether that token is nested too deep; or the index of an operation beyond it,\n"
-             "or of a spread that can't be expanded, and the words of that error. Raises ValueError if the limits have\n"
-             "another size, and MemoryError if memory runs out.");
+             "or of a spread that can't be expanded, and the words of that error. If no document has a token where it is,\n"
+             "returns its index, what is open before it, as UTF-8, and the index of its end. Raises ValueError if the limits\n"
+             "have another size, and MemoryError if memory runs out.");
 
 /* Whether the status of a document says that an operation can't be expanded, or is beyond a limit. */
 static bool is_large(uint32_t status) {
@@ -89,6 +90,9 @@ static PyObject *answer(builder *b, const whole *w, Py_ssize_t characters) {
     if (w->status == FIRTHNAPKIN_OUT_OF_MEMORY) return PyErr_NoMemory();
     if (is_deep || w->status == FIRTHNAPKIN_TOO_MANY_TOKENS)
         return Py_BuildValue("kO", (unsigned long)w->error.start.index, is_deep ? Py_True : Py_False);
+    if (w->status == FOUND_OPEN)
+        return Py_BuildValue("ky#k", (unsigned long)w->error.start.index, (const char *)w->texts, (Py_ssize_t)w->texts_count,
+                             (unsigned long)w->error.end.index);
     if (is_large(w->status)) return answer_of_large(b, w);
     return w->status != FIRTHNAPKIN_OK || is_read_otherwise(b) ? none() : document_at_once(b, characters);
 }
@@ -107,6 +111,7 @@ static PyObject *document_in(PyObject *module, PyObject *arguments) {
     size_t counted = 0;
     PyThreadState *thread = PyEval_SaveThread();
     whole w = within(&state->rules, (const uint8_t *)bytes, (size_t)length, &limits, most);
+    find_open(&w, (const uint8_t *)bytes, (size_t)length);
     if (w.status == FIRTHNAPKIN_OK) w.status = count_for(&state->rules, (const uint8_t *)bytes, (size_t)length, &counted);
     PyEval_RestoreThread(thread);
     builder b = {.state = state, .nodes = w.nodes, .count = w.nodes_count, .source = bytes, .texts = (const char *)w.texts,

@@ -210,15 +210,18 @@ static uint32_t begun(const uint8_t *source, const firthnapkin_limits *limits, f
     return status;
 }
 
+/* The status of a source that doesn't keep a limit, if graphql-core reports a token before the first one beyond it. */
+enum { EARLIER_ERROR = 102 };
+
 /* The nodes of a source that keeps all limits. If it doesn't, the status says which one, and the error is at the first
- * token beyond it, or says which operation is. But the status is FIRTHNAPKIN_SYNTAX_ERROR if graphql-core reports an earlier
- * token. */
+ * token beyond it, or says which operation is; or the status is EARLIER_ERROR. */
 static whole within(const counting_rules *rules, const uint8_t *source, size_t length, const package_limits *limits,
                     int64_t most) {
     whole w = with_few_tokens(rules, source, length, limits, most);
+    if (w.status != FIRTHNAPKIN_TOO_MANY_TOKENS && w.status != FIRTHNAPKIN_TOO_DEEP) return w;
     if (w.status == FIRTHNAPKIN_TOO_MANY_TOKENS) w.status = begun(source, &limits->call, &w.error);
-    bool is_beyond = w.status == FIRTHNAPKIN_TOO_MANY_TOKENS || w.status == FIRTHNAPKIN_TOO_DEEP;
-    if (is_beyond && is_refused_before(source, length, &w.error, &w.status)) w.status = FIRTHNAPKIN_SYNTAX_ERROR;
+    bool is_earlier = w.status == FIRTHNAPKIN_SYNTAX_ERROR || is_refused_before(source, length, &w.error, &w.status);
+    if (is_earlier) w.status = EARLIER_ERROR;
     return w;
 }
 

@@ -22,6 +22,9 @@ _NESTING = {
     TokenKind.BRACE_R: -1,
 }
 
+# What graphql-core puts before the description of a syntax error.
+_PREFIX = "Syntax Error: "
+
 _LITTLE_STACK = "The stack is too small for what is nested here."
 
 
@@ -39,7 +42,7 @@ def too_little_stack(source: Source, index: int) -> GraphQLSyntaxError:
 
     graphql-core's constructors aren't called, since the stack may have no room for these either.
     """
-    error = GraphQLSyntaxError.__new__(GraphQLSyntaxError, f"Syntax Error: {_LITTLE_STACK}")
+    error = GraphQLSyntaxError.__new__(GraphQLSyntaxError, f"{_PREFIX}{_LITTLE_STACK}")
     error.message, error.description = error.args[0], _LITTLE_STACK
     error.source, error.positions = source, [index]
     # As Source.get_location counts.
@@ -136,6 +139,19 @@ def _error_of(excess: Excess) -> GraphQLError:
     location = excess.node.loc
     assert location is not None
     return GraphQLError(f"{excess.words}.", source=location.source, positions=[location.start])
+
+
+def error_after(before: str, source: Source, start: int, end: int, depth: int) -> Optional[GraphQLSyntaxError]:
+    """Returns graphql-core's error at a token of a source, or at its end, or None if its parser reports nothing there.
+
+    Its parser reads that token after what is open before it, in place of all that is before it.
+    """
+    try:
+        _parsed(before + source.body[start:end], {"no_location": True}, depth, None)
+    except GraphQLSyntaxError as error:
+        if error.positions == [len(before)]:
+            return GraphQLSyntaxError(source, start, error.message[len(_PREFIX) :])
+    return None
 
 
 def _require_known_parser() -> None:

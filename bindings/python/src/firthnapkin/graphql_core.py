@@ -23,7 +23,7 @@ from graphql.language.parser import parse as own_parse
 
 from . import _graphql_core, _parser
 from ._graphql_nodes import Location
-from ._graphql_own import own_document, too_deep, too_little_stack, too_many
+from ._graphql_own import error_after, own_document, too_deep, too_little_stack, too_many
 from .parser import LIMITS
 
 __all__ = ["Location", "install", "parse", "uninstall"]
@@ -94,7 +94,12 @@ def _document(
     found = _graphql_core.document(written, len(origin.body), limits, None if no_location else origin, most)
     if not isinstance(found, tuple):
         return found
-    index, why = found
+    index, why, *end = found
+    if isinstance(why, bytes):
+        error = error_after(why.decode(), origin, index, end[0], operator.index(depth))
+        if error is None:
+            return None
+        raise error
     if isinstance(why, str):
         raise GraphQLError(f"{why}.", source=origin, positions=[index])
     if why:
