@@ -104,7 +104,7 @@ class Errors(unittest.TestCase):
             ("{ a ) }", "Expected Name, found ')'.", 4), ("", "Unexpected <EOF>.", 0), ("{ a { b } c: }", "Expected Name, found '}'.", 13),
             ("{ a(b: [1, {c: 2}]) { d } } fragment on on T { e }", "Unexpected Name 'on'.", 37),
             ("{ a } } ", "Unexpected '}'.", 6), ("query($a: [T!!]) { b }", "Expected ']', found '!'.", 13), ("#é𝄞\n{ a(b 1) }", "Expected ':', found Int '1'.", 10),
-            ("{ ...on }", "Expected Name, found '}'.", 8), ("{ ...on on on }", "Expected '{', found Name 'on'.", 11), ("{ a", "Expected Name, found <EOF>.", 3),
+            ("{ ...on }", "Expected Name, found '}'.", 8), ("{ ...on on on }", "Expected '{', found Name 'on'.", 11), ("{ a", "Expected Name, found <EOF>.", 3), ("{ x: y : }", "Expected Name, found ':'.", 7),
             ('{ a(b: "é𝄞") "c" }', "Expected Name, found String 'c'.", 13), ("query { a } nonsense", "Unexpected Name 'nonsense'.", 12),
         ]:  # fmt: skip
             with self.subTest(text=text):
@@ -121,7 +121,9 @@ class Errors(unittest.TestCase):
             (long, 40),
             (long + "} {a} }", 40),
             ("{a}" * 5000 + "{", 20),
-            ("{" * 1 + long[19:] + "b { c } d: (", 40),
+            ("{" + "...F " * 5000 + ")", 20),
+            ("{" + "...on T{a}" * 5000 + "...on", 20),
+            ("{" + long[20:] + "b { c } d: (", 40),
         ):
             with mock.patch.object(Lexer, "read_next_token", autospec=True, side_effect=Lexer.read_next_token) as calls:
                 found = answer(graphql_core.parse, text)
@@ -167,16 +169,16 @@ class Errors(unittest.TestCase):
             "def tried(text):\n"
             "    try: found.add(_graphql_core.document(text, len(text), limits, None, 2**32 - 1))\n"
             "    except MemoryError: found.add('memory')\n"
-            "for i in range(200_000):\n"
+            "for i in range(60_000):\n"
             "    if i == 1_000: before = resident()\n"
             "    tried(b'{ a { b c } d(e: [1, {f: 2}) }')\n"
             "print(resident() - before < 2**22, found)\n"
-            "text = b'{' + b'a ' * 2**20 + b')'\n"
+            "text = b'{a(b:[' + b'1 ' * 2**18 + b')'\n"
             "found.clear()\n"
-            "for more in range(0, 2**28, 2**23):\n"
+            "for more in range(0, 2**25, 2**18):\n"
             "    resource.setrlimit(resource.RLIMIT_AS, (taken() + more, resource.RLIM_INFINITY))\n"
             "    tried(text)\n"
-            "print(found == {'memory', (2**21 + 1, b'{ a ', 2**21 + 2)})\n"
+            "print(found == {'memory', (2**19 + 6, b'{ a ( b : [ ' + b'1 ' * 2**18, 2**19 + 7)})\n"
         )
         self.assertEqual((found.stdout, found.stderr), (b"True {(27, b'{ d ( e : [ 1 { f : 2 } ', 28)}\nTrue\n", b""))
 

@@ -9,7 +9,14 @@ from typing import Any, Callable, Iterator, List, NamedTuple, Optional
 from unittest import mock
 
 from helpers import Text, on_stack
-from graphql_texts import ASKED, WHOLE, answer, made_texts, row_texts  # skips if graphql-core 3.2 is not installed
+from graphql_texts import (
+    ASKED,
+    READS_DESCRIPTIONS,
+    WHOLE,
+    answer,
+    made_texts,
+    row_texts,
+)  # skips if graphql-core 3.2 is not installed
 from test_graphql_limits import FAULTY, READ, counts, too_many
 
 import graphql
@@ -18,9 +25,6 @@ from graphql import GraphQLError, GraphQLSyntaxError, Source
 from graphql.language import Lexer, TokenKind, ast
 from graphql.language.parser import Parser
 from graphql.language.parser import parse as own_parse
-
-# graphql-core reads descriptions of requests from 3.2.7 on.
-READS_DESCRIPTIONS = isinstance(answer(own_parse, '"d" query Q { a }'), ast.DocumentNode)
 
 
 class Way(NamedTuple):
