@@ -108,7 +108,7 @@ class BothMeasures(unittest.TestCase):
                     continue
                 self.assertEqual((numbers_of(document), fault), (wanted, None))
                 counted += len(wanted)
-        self.assertGreater(counted, 700)
+        self.assertGreater(counted, 500)
         self.assertGreater(faults, 300)
 
     def test_errors(self) -> None:
