@@ -98,27 +98,27 @@ class Expansion:
         spread.
         """
         whole = _Part("", operation)
-        parts, names = [whole], {whole.name}
+        parts: List[_Part] = [whole]
+        begun: Set[str] = set()
         while parts:
             part = parts[-1]
             spread = part.first_unexpanded(self._expanded)
             if spread is not None:
-                fragment = _Part(spread.name.value, self._fragment_of(spread, names))
+                fragment = _Part(spread.name.value, self._fragment_of(spread, begun))
                 parts.append(fragment)
-                names.add(fragment.name)
+                begun.add(fragment.name)
                 continue
             parts.pop()
-            names.remove(part.name)
             if part is not whole:
                 self._expanded[part.name] = part.complexity
         return whole.complexity
 
-    def _fragment_of(self, spread: ast.FragmentSpreadNode, inside: Set[str]) -> ast.FragmentDefinitionNode:
-        """Returns the fragment of a spread that is inside the fragments of these names."""
+    def _fragment_of(self, spread: ast.FragmentSpreadNode, begun: Set[str]) -> ast.FragmentDefinitionNode:
+        """Returns the fragment of a spread, which isn't expanded. If it has begun, the spread is within it."""
         name = spread.name.value
         if name not in self._fragments:
             raise _Unexpandable("Unknown fragment", spread)
-        if name in inside:
+        if name in begun:
             raise _Unexpandable("Fragment spread within itself", spread)
         return self._fragments[name]
 
