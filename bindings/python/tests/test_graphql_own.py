@@ -3,6 +3,7 @@ Skipped if graphql-core 3.2 is not installed."""
 
 import math
 import random
+import sys
 import unittest
 from itertools import dropwhile
 from typing import Any, Callable, Iterator, List, NamedTuple, Optional
@@ -327,18 +328,22 @@ class Stacks(unittest.TestCase):
                     self.assertEqual(found[-1], found_by(graphql_core.parse, text, **options))
 
     def from_the_end(self, text: Any, options: Any) -> List[Any]:
-        """What is found from each of 120 frames, the last ones of a stack, from the last one on."""
+        """What is found from each of the last frames of a stack, from the last one on, each time on a stack of its own."""
         found: List[Any] = []
 
-        def down() -> None:
-            try:
-                down()
-            except RecursionError:
-                pass
-            if len(found) < 120:
-                found.append(found_by(graphql_core.parse, text, **options))
+        def work() -> None:
+            found.append(found_by(graphql_core.parse, text, **options))
 
-        on_stack(2**26, down)
+        def from_frame(frames: int) -> None:
+            try:
+                below(frames, work)
+            except RecursionError:
+                # Not even the call above has room.
+                pass
+
+        limit = sys.getrecursionlimit()
+        for frames in range(limit, limit - 130, -1):
+            on_stack(2**26, lambda frames=frames: from_frame(frames))
         return found
 
     def test_what_the_error_has(self) -> None:
