@@ -36,7 +36,7 @@ import (
 type Complexity struct {
 	Fields     uint32 // the fields, at every depth
 	Aliases    uint32 // the fields with an alias
-	Directives uint32 // those of the operation, of what is selected, and of a fragment each time that it is spread
+	Directives uint32 // those of the operation, of its variable definitions, of what is selected, and of a fragment each time that it is spread
 	RootFields uint32 // the fields that are in no other field
 	Depth      uint32 // how many fields are nested in one another at most: 1 if no field is in another
 }

@@ -128,7 +128,7 @@ export interface Complexity {
   readonly fields: number;
   /** The fields with an alias. */
   readonly aliases: number;
-  /** The directives of the operation, of what is selected, and of a fragment each time that it is spread. */
+  /** The directives of the operation, of its variable definitions, of what is selected, and of a fragment each time that it is spread. */
   readonly directives: number;
   /** The fields that are in no other field. */
   readonly rootFields: number;

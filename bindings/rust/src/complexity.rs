@@ -19,7 +19,8 @@ pub struct Complexity {
     pub fields: u32,
     /// The fields with an alias.
     pub aliases: u32,
-    /// The directives of the operation, of what is selected, and of a fragment each time that it is spread.
+    /// The directives of the operation, of its variable definitions, of what is selected, and of a fragment each time that it is
+    /// spread.
     pub directives: u32,
     /// The fields that are in no other field.
     pub root_fields: u32,
