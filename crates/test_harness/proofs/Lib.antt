@@ -1,3 +1,4 @@
+pub mod DefinitionNames
 pub mod Fronts
 pub mod NamesOfFields
 pub mod Trees

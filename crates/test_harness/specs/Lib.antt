@@ -7,3 +7,4 @@ pub mod ArgumentValues
 pub mod Affordable
 pub mod Stores
 pub mod Json
+pub mod Names

@@ -13,7 +13,7 @@ type Scalar = DefaultScalarValue;
 
 /// Why a request has no answer.
 #[derive(Debug, Drop)]
-pub enum AnswerFailure {
+pub(crate) enum AnswerFailure {
     /// The text is no document.
     Parse(ParseFailure),
     /// The document has no operation to execute.
@@ -31,7 +31,7 @@ impl From<AllocError> for AnswerFailure {
 }
 
 /// The answer to a request, as JSON. A field's value is its argument `value`, or `null`. Fragments aren't executed.
-pub fn answer_json(
+pub(crate) fn answer_json(
     alloc: Global,
     source: &str,
     name: Option<&str>,

@@ -14,7 +14,7 @@ use std::alloc::Global;
 type Scalar = DefaultScalarValue;
 
 /// The JSON text of an answer: each scalar, item and field once, in order.
-pub fn json_text(alloc: Global, answer: &Value<Scalar>) -> Result<String, serde_json::Error>
+pub(crate) fn json_text(alloc: Global, answer: &Value<Scalar>) -> Result<String, serde_json::Error>
     ensures { IfOk result (λ text. IsTextOf (Some (events (view default_content answer.now))) (string_bytes text)) }
 {
     serde_json::to_string(alloc, &Json { answer })

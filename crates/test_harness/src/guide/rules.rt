@@ -21,7 +21,7 @@ type Breach<'t> = (&'static str, &'t Span);
 /// itself.
 ///
 /// Returns the error of a text that is no document, or `Memory` if memory runs out.
-pub fn broken_rules(alloc: Global, source: &str) -> Result<Vec<String>, ParseFailure>
+pub(crate) fn broken_rules(alloc: Global, source: &str) -> Result<Vec<String>, ParseFailure>
     ensures document { IfOk result (λ _. IsDocumentText (chars source.now)) }
     ensures refused { IfRefused result (λ fault. IsRefusal default_scalars (chars source.now) (view_fault fault)) }
 {

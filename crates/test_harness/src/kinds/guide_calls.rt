@@ -1,14 +1,16 @@
 //! The functions of the guide.
 
 use crate::guide::{
-    AnswerFailure, CostFailure, Store, answer_json, argument_value, broken_rules, fault_line,
-    field_names, is_document, is_document_within, kept_up_to, parse_affordable, same_literal,
-    store_query, stored_query,
+    AnswerFailure, CostFailure, Store, answer_json, argument_value, broken_rules, definition_names,
+    fault_line, field_names, is_document, is_document_within, kept_up_to, parse_affordable,
+    same_literal, store_query, stored_query,
 };
 use crate::kinds::input_values::variables_of;
 use crate::kinds::word_of;
 use crate::parsing::{Document, Input, document, literal};
-use crate::write::{Written, write_failure, write_items, write_optional, write_span, write_truth};
+use crate::write::{
+    Written, write_failure, write_items, write_optional, write_separator, write_span, write_truth,
+};
 use juniper::{
     DefaultScalarValue, Definition, Field, LimitFailure, Limits, ParseFailure, Selection, Span,
 };
@@ -19,8 +21,8 @@ use std::collections::BTreeMap;
 
 /// `guide`: calls on the text. `is_document_within` takes a limit, `same_literal` another text, `argument_value` the name
 /// of an argument of the first field of the first operation, and the variables as the fields of an object. `stored` takes
-/// another text, which is looked for in a store of the text, `parse_affordable` the largest number of fields, within a depth
-/// of 3 and 20 tokens, `answer_json` the name of an operation, or `-` for none, and the variables as the fields of an object.
+/// another text, which is looked for in a store of the text, `parse_affordable` the largest number of fields, as
+/// `definition_names` within a depth of 3 and 20 tokens, `answer_json` the name of an operation, or `-` for none, and the variables as the fields of an object.
 pub fn answer(alloc: Global, out: &mut String, text: &str, call: &str) -> Written {
     let (word, rest) = word_of(call);
     match word {
@@ -33,10 +35,33 @@ pub fn answer(alloc: Global, out: &mut String, text: &str, call: &str) -> Writte
         "kept_up_to" => write_place(out, kept_up_to(alloc, text)?),
         "same_literal" => write_same(out, same_literal::<DefaultScalarValue>(alloc, text, rest)),
         "stored" => write_stored(out, stored(alloc, text, rest)),
+        "definition_names" => write_definition_names(out, definition_names(alloc, text, LIMITS)),
         "parse_affordable" => write_affordable(alloc, out, text, rest),
         "broken_rules" => write_broken(out, broken_rules(alloc, text)),
         "answer_json" => write_answer(alloc, out, text, rest),
         _ => answer_tree(alloc, out, text, word, rest),
+    }
+}
+
+const LIMITS: Limits = Limits {
+    depth: 3,
+    tokens: 20,
+};
+
+fn write_definition_names(
+    out: &mut String,
+    names: Result<Vec<Option<&str>>, LimitFailure>,
+) -> Written {
+    match names {
+        Ok(names) => {
+            let before = out.len();
+            for name in &names {
+                write_separator(out, before)?;
+                out.push_str(name.unwrap_or("None"))?;
+            }
+            Ok(())
+        }
+        Err(failure) => write_limit(out, failure),
     }
 }
 
@@ -69,11 +94,7 @@ fn write_stored(out: &mut String, number: Result<Option<usize>, LexFailure>) -> 
 }
 
 fn write_affordable(alloc: Global, out: &mut String, text: &str, most: &str) -> Written {
-    let limits = Limits {
-        depth: 3,
-        tokens: 20,
-    };
-    match parse_affordable(alloc, text, limits, most.parse::<u64>().unwrap_or(0)) {
+    match parse_affordable(alloc, text, LIMITS, most.parse::<u64>().unwrap_or(0)) {
         Ok(document) => write!(out, "{} definitions", document.len()),
         Err(CostFailure::Text(failure)) => write_limit(out, failure),
         Err(CostFailure::Spread(failure)) => write_spread(out, failure),
