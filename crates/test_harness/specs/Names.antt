@@ -14,8 +14,8 @@ use Rattle.test_harness.specs.declared.guide.names.DefinitionNames.{DefinitionNa
 
 -- a definition's name, if it has one
 abbrev pub name_of : Definition Content → Option Text
-name_of (Operation type name variables directives selections span) = option_map (λ word. word.item) name
-name_of (Fragment name condition directives selections span) = Some name.item
+name_of (Operation _ name _ _ _ _) = option_map (λ word. word.item) name
+name_of (Fragment name _ _ _ _) = Some name.item
 
 abbrev pub IsNameOf : Option (Bor (List ℕ)) → Definition Content → Type 0
 IsNameOf name definition = option_map (λ text. chars text.now) name ≡ name_of definition
