@@ -1,5 +1,6 @@
 -- What is answered for a text within limits on nesting and on tokens.
 use Rattle.std.proofs.Common.{◌≡◌, ◌<◌, ◌^◌, ℕ, ◌⊎◌, List, [], inl, inr, sym, ap, subst, Result, Ok, Err}
+use Rattle.std.specs.Prelude.{IfOk}
 use Rattle.std.specs.Result.{IsErrAnd}
 use Rattle.graphql_grammar.specs.Tree.{Scalars, Definition}
 use Rattle.juniper_tokens.specs.declared.error.LexFailure.{LexFailure}
@@ -18,9 +19,10 @@ use Rattle.juniper.specs.declared.parser.document.depth.DepthFailure.{DepthFailu
 use Rattle.juniper.specs.declared.parser.document.depth.DepthFailure.TheVariants as within
 use Rattle.juniper.specs.declared.parser.document.limited.LimitFailure.{LimitFailure}
 use Rattle.juniper.specs.declared.parser.document.limited.LimitFailure.TheVariants as limited
-use Rattle.juniper.specs.Within.{ReturnsWithin}
+use Rattle.juniper.specs.Promise.{HasTree}
+use Rattle.juniper.specs.Within.{IsWithin, ReturnsWithin}
 use Rattle.juniper.specs.Limited.{HasFewTokens, HasOneResultLimited, HasTreeLimited, IsRefusedLimited, IsTooDeepLimited}
-use Rattle.juniper.specs.Limited.{IsTooLarge, IfParsed, FailsLimited, ReturnsLimited, failure_limited, tokens_limited}
+use Rattle.juniper.specs.Limited.{IsTooLarge, IfParsed, FailsAs, FailsLimited, ReturnsLimited, failure_limited, tokens_limited}
 use Rattle.juniper.proofs.DepthLimits.{lexical_within, one_answer}
 
 module _ {C : Type 0} (S : Scalars C Error) (depth most : ℕ) (source : List ℕ) where
@@ -113,6 +115,55 @@ module _ {C : Type 0} (S : Scalars C Error) (depth most : ℕ) (source : List �
     fails_limited (limited.Parse failure.Memory) p = tt
     fails_limited (limited.TooDeep span) p = (p.too_deep, p.few)
     fails_limited (limited.TooMany span) p = (p.too_many, p.limited)
+
+    -- what is promised by outcome, of what a failure says
+    err_limited : (e : LimitFailure) → FailsLimited S depth most source e → ReturnsLimited S depth most source view (Err e)
+    err_limited (limited.Parse (failure.Refused fault)) p = record {
+      accepted = tt;
+      refused = p.0;
+      within = p.1;
+      too_deep = tt;
+      few = p.2;
+      too_many = tt;
+      limited = tt;
+    }
+    err_limited (limited.Parse failure.Memory) p =
+        record { accepted = tt; refused = tt; within = tt; too_deep = tt; few = tt; too_many = tt; limited = tt }
+    err_limited (limited.TooDeep span) p = record {
+      accepted = tt;
+      refused = tt;
+      within = tt;
+      too_deep = p.0;
+      few = p.1;
+      too_many = tt;
+      limited = tt;
+    }
+    err_limited (limited.TooMany span) p = record {
+      accepted = tt;
+      refused = tt;
+      within = tt;
+      too_deep = tt;
+      few = tt;
+      too_many = p.0;
+      limited = p.1;
+    }
+
+    -- and of what holds where there is none
+    pub limited_returns : (result : Result X LimitFailure) → IfOk result (λ x. HasTree S source (view x))
+        → IfOk result (λ _. IsWithin S depth source) → IfOk result (λ _. HasFewTokens most source)
+        → FailsAs (λ (a b : LimitFailure). b ≡ a) result (FailsLimited S depth most source)
+        → ReturnsLimited S depth most source view result
+    limited_returns (Ok x) tree shallow few failed = record {
+      accepted = tree;
+      refused = tt;
+      within = shallow;
+      too_deep = tt;
+      few = few;
+      too_many = tt;
+      limited = tt;
+    }
+    limited_returns (Err e) tree shallow few failed =
+        err_limited e (subst (FailsLimited S depth most source) (sym failed.1) failed.2)
 
   -- what a failure to take the tokens says
   pub tokens_fail : (Y : Type 0) (failed : LimitedLexFailure) (state : LexerState) → state ≡ started source

@@ -8,8 +8,8 @@ use Rattle.juniper_tokens.specs.declared.error.ParseFailure.{ParseFailure}
 use Rattle.juniper_tokens.specs.declared.error.ParseFailure.TheVariants as failures
 use Rattle.juniper_tokens.specs.Cursor.{Read, Fails, Gives, ◌>>=◌}
 use Rattle.juniper.specs.Building.{BuildsEach, BuildsList, BuildsOptional, BuildsOptionalSet, BuildsSet, BuildsTree}
-use Rattle.juniper.specs.device.Builds.{Builds, BuildsAs, BuildsOr}
-use Rattle.juniper.specs.Promise.{HasTree, ReturnsAs}
+use Rattle.juniper.specs.device.Builds.{Builds, BuildsOr}
+use Rattle.juniper.specs.Promise.{HasTree}
 use Rattle.juniper_tokens.specs.Errors.{Error}
 use Rattle.juniper.proofs.Loops.{with_front}
 
@@ -65,15 +65,6 @@ optional_set_builds built gathered old new None None same = same
 optional_set_builds built gathered old new None (Some s) some = absurd some
 optional_set_builds built gathered old new (Some x) None some = absurd some
 optional_set_builds built gathered old new (Some x) (Some s) one = one
-
--- a call returned what is seen as the parts that the reading gives, or the parser's error
-pub seen_returns : {B X Y A : Type 0} (view : X → A) (items : Y → List X) (old new : B) (result : Result Y ParseFailure)
-    (read : Read (List A))
-    → BuildsAs (λ (a b : ParseFailure). b ≡ a) (BuildsList (λ (o n : B) x p. view x ≡ p) items old new) result read
-    → ReturnsAs (λ y. map view (items y)) result read
-seen_returns view items old new (Ok y) read h =
-    (h.0, h.1.reads ∙ ap (λ ps. Ok (ps, h.0)) (sym (each_seen view old new (items y) h.1.part h.1.is_built)))
-seen_returns view items old new (Err e) read h = (h.0, subst (λ (f : ParseFailure). Fails f h.0 read) (sym h.1.1) h.1.2)
 
 -- the tree that was built of a source's is its tree
 seen_tree : {B X Y C : Type 0} (view : X → Definition C) (items : Y → List X) (S : Scalars C Error) (source : List ℕ)

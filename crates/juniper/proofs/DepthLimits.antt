@@ -1,18 +1,19 @@
 -- What is answered for tokens that were ended after a deep one is answered for their text.
 use Rattle.std.proofs.Common.{◌≡◌, ℕ, suc, ◌<◌, ◌≤◌, ◌⊎◌, true, false, List, [], ◌∷◌, ◌++◌, length, take, inl, inr}
 use Rattle.std.proofs.Common.{refl, sym, ap, subst, ◌∙◌, arith, append_assoc, append-nil, Result, Ok, Err, Option, Some}
-use Rattle.std.proofs.Common.{None, length-append}
-use Rattle.std.specs.Prelude.{◌==◌, pos, ◌≤ℤ◌, IfOk}
+use Rattle.std.proofs.Common.{None, length-append, zero-le}
+use Rattle.std.specs.Prelude.{◌==◌, pos, ◌≤ℤ◌}
 use Rattle.std.proofs.Math.Nat.{eq-or-lt_of_le}
 use Rattle.std.proofs.lemmas.Int.{by_lt_z}
+use Rattle.std.proofs.lemmas.List.Sums.{count_by-le-length}
 use Rattle.std.specs.List.{AllByRecursion}
 use Rattle.graphql_lexical.specs.Place.{Place, Span}
 use Rattle.graphql_lexical.specs.Kinds.{LexicalError}
 use Rattle.graphql_lexical.specs.Cutting.{Lexeme, Cut, Breaks, EndsOnce}
-use Rattle.graphql_lexical.specs.device.Indexed.{nesting_at, IsFirstDeeperAt}
+use Rattle.graphql_lexical.specs.device.Indexed.{CutFrom, nesting_at, IsFirstDeeperAt}
 use Rattle.graphql_lexical.proofs.Public.{one_cut_or_break, one_deep, crossed, IsWide, tokens_wide, tokens_in_order}
-use Rattle.graphql_lexical.proofs.Public.{after_deeper, before_is, fronts_shallow}
-use Rattle.graphql_lexical.specs.Nesting.{ended_by}
+use Rattle.graphql_lexical.proofs.Public.{after_deeper, before_is, by_places, cut_front, deep_count, fronts_shallow, leads_size}
+use Rattle.graphql_lexical.specs.Nesting.{ended_by, is_opening}
 use Rattle.graphql_grammar.specs.Tree.{Scalars, Definition}
 use Rattle.graphql_grammar.specs.Tokens.{IsSpelled}
 use Rattle.graphql_grammar.specs.Faults.{DocumentRefusedAt}
@@ -39,7 +40,6 @@ use Rattle.juniper.specs.declared.parser.document.depth.DepthFailure.{DepthFailu
 use Rattle.juniper.specs.declared.parser.document.depth.DepthFailure.TheVariants as limited
 use Rattle.juniper.specs.Promise.{HasTree, ReturnsAs, lexical_fault, unexpected}
 use Rattle.juniper.specs.laws.RefusalClauses.{IsRefusedAt, IsRefusalByClauses}
-use Rattle.juniper.specs.Limited.{FailsAs}
 use Rattle.juniper.specs.Within.{HasTooDeep, IsWithin, ReturnsWithin, HasTreeWithin, IsRefusedWithin, IsNestedTooDeep}
 use Rattle.juniper.specs.Within.{HasOneResult, FailsWithin, result_within}
 use Rattle.graphql_grammar.specs.device.Productions.{document}
@@ -155,19 +155,6 @@ module _ {C : Type 0} (S : Scalars C Error) (depth : ℕ) (source : List ℕ) wh
     fails_within (limited.Parse failure.Memory) p = tt
     fails_within (limited.TooDeep span) p = p.too_deep
 
-    -- what is promised by outcome, of what a failure says
-    err_returns : (e : DepthFailure) → FailsWithin S depth source e → Promised (Err e)
-    err_returns (limited.Parse (failure.Refused fault)) p =
-        record { accepted = tt; refused = p.0; within = p.1; too_deep = tt }
-    err_returns (limited.Parse failure.Memory) p = memory_within
-    err_returns (limited.TooDeep span) p = deep_within span p
-
-    pub within_returns : (result : Result X DepthFailure) → IfOk result (λ x. HasTree S source (view x))
-        → IfOk result (λ _. IsWithin S depth source)
-        → FailsAs (λ (a b : DepthFailure). b ≡ a) result (FailsWithin S depth source) → Promised result
-    within_returns (Ok x) tree shallow failed = tree_within x tree shallow
-    within_returns (Err e) tree shallow failed = err_returns e (subst (FailsWithin S depth source) (sym failed.1) failed.2)
-
     -- ---- what is answered for the tokens of the text, or for those up to a deep one
 
     module _ (ts : List Lexeme) (cut : Cut source ts) where
@@ -261,6 +248,24 @@ module _ {C : Type 0} (S : Scalars C Error) (depth : ℕ) (source : List ℕ) wh
         } in
         refusal_within _ (lexical S source _ _ _ breaks (lexical_reported fault z)) uncut
     lexical_within state lexing.Memory e b z = memory_within
+
+  -- ---- a text with such a token is long
+
+  pub deep_is_long : (span : Span) → HasTooDeep S depth source span → depth ≤ length source
+  deep_is_long span h =
+      let d = (deep_there h.lexemes h.cut span h).deeper in
+      let there = subst (CutFrom source 0) d.whole (by_places source h.lexemes h.cut) in
+      let front = cut_front source d.before h.token d.after 0 there in
+      let size = leads_size source d.before 0 front.0 zero-le front.1 in
+      let few = count_by-le-length (λ (x : Lexeme). is_opening x.kind) (d.before ++ h.token ∷ []) in
+      omega (
+        arith,
+        deep_count depth h.lexemes (length h.before) h.token d,
+        few,
+        length-append d.before (h.token ∷ []),
+        size.0,
+        size.1,
+      )
 
   -- ---- a text has one such token at most
 

@@ -1,13 +1,11 @@
 -- A refusal by cases is one by clauses, and the other way round.
-use Rattle.std.proofs.Common.{ℕ, inl, inr, List, [], ◌∷◌, ◌++◌, refl, sym, ap, subst, Result, Ok, Err}
+use Rattle.std.proofs.Common.{ℕ, inl, inr, List, [], ◌∷◌, ◌++◌, refl, sym, ap, subst}
 use Rattle.graphql_lexical.specs.Cutting.{Lexeme, Cut}
 use Rattle.graphql_lexical.proofs.Public.{one_cut_or_break}
 use Rattle.graphql_grammar.specs.Tree.{Scalars}
 use Rattle.graphql_grammar.specs.Texts.{BeginsText}
-use Rattle.juniper_tokens.specs.declared.error.ParseFailure.{ParseFailure}
-use Rattle.juniper_tokens.specs.declared.error.ParseFailure.TheVariants as failure
-use Rattle.juniper_tokens.specs.Errors.{Error, Fault, view_fault}
-use Rattle.juniper.specs.Promise.{IfRefused, IsRefusal, lexical, grammatical}
+use Rattle.juniper_tokens.specs.Errors.{Error, Fault}
+use Rattle.juniper.specs.Promise.{IsRefusal, lexical, grammatical}
 use Rattle.juniper.specs.laws.RefusalClauses.{IsRefusedAt, IsRefusalByClauses, IsRefusalInText}
 use Rattle.juniper.proofs.Promises.{refusal_at, refusal_in_text}
 use Rattle.juniper.proofs.Promises as promise
@@ -38,15 +36,3 @@ module _ {C : Type 0} (S : Scalars C Error) (source : List ℕ) where
   -- and it is one in characters
   pub by_cases_in_text : (fault : Fault) → IsRefusal S source fault → IsRefusalInText S source fault
   by_cases_in_text fault h = refusal_in_text S source fault (by_cases fault h)
-
-  pub refused_with : {X : Type 0} (result : Result X ParseFailure) → IfRefused result (λ fault. IsRefusalByClauses S source (view_fault fault))
-      → IfRefused result (λ fault. IsRefusal S source (view_fault fault))
-  refused_with (Ok x) h = tt
-  refused_with (Err (failure.Refused fault)) h = by_clauses (view_fault fault) h
-  refused_with (Err failure.Memory) h = tt
-
-  pub refusal_of_with : {X : Type 0} (result : Result X ParseFailure) → IfRefused result (λ fault. IsRefusal S source (view_fault fault))
-      → IfRefused result (λ fault. IsRefusalByClauses S source (view_fault fault))
-  refusal_of_with (Ok x) h = tt
-  refusal_of_with (Err (failure.Refused fault)) h = by_cases (view_fault fault) h
-  refusal_of_with (Err failure.Memory) h = tt

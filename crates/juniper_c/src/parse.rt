@@ -1,21 +1,15 @@
 //! A source's nodes, in the caller's memory.
-ghost use Rattle.std.specs.Prelude.{◌≡◌, ◌≢◌, ◌<◌, ◌≤◌, ◌^◌, ◌⊎◌, ◌↔◌, List, length, IsUtf8};
-ghost use Rattle.std.specs.Str.{chars};
-ghost use Rattle.graphql_lexical.specs.Place as places;
+ghost use Rattle.std.specs.Prelude.{◌≡◌, ◌≢◌, ◌<◌, ◌≤◌, ◌⊎◌, List, length};
 ghost use Rattle.graphql_grammar.specs.Tree.{Definition};
-ghost use Rattle.juniper_tokens.specs.Errors as errors;
 ghost use Rattle.juniper_values.specs.Scalar.{Content};
-ghost use Rattle.juniper_flat.specs.Limits.{AreInvalid};
-ghost use Rattle.juniper_flat.specs.Faults.{written_fault, deep_fault, many_fault};
-ghost use Rattle.juniper_flat.specs.Answers.{HasDocument, HasRefusal, HasDeepToken, HasTokenTooMany, nodes_of, texts_of, Begins, Fills, IsStatus};
+ghost use Rattle.juniper_flat.specs.Answers.{HasDocument, ReportsFailure, nodes_of, texts_of, Begins, Fills, IsStatus};
 
 use juniper_flat::fault::Fault;
 use juniper_flat::flat::{Parsed, write_nodes};
 use juniper_flat::limits::{Limits, are_refused};
 use juniper_flat::node::Node;
 use juniper_flat::status::{
-    BUFFER_TOO_SMALL, INVALID_LIMIT, NOT_UTF8, OK, OUT_OF_MEMORY, SOURCE_TOO_LONG, SYNTAX_ERROR,
-    TOO_DEEP, TOO_MANY_TOKENS,
+    BUFFER_TOO_SMALL, INVALID_LIMIT, OK, SYNTAX_ERROR, TOO_DEEP, TOO_MANY_TOKENS,
 };
 use std::alloc::Global;
 
@@ -46,16 +40,9 @@ pub extern "C" fn firthnapkin_parse(
 
     // So buffers as long as the source are never too short.
     ensures bounds { (nodes_length.new ≤ length source.now) × (texts_length.new ≤ length source.now) }
-    ensures refused { result ≡ SYNTAX_ERROR → (found : errors.Fault) × HasRefusal source.now limits.now found × (fault.new ≡ written_fault (chars source.now) found) }
-    ensures too_deep { result ≡ TOO_DEEP → (span : places.Span) × HasDeepToken source.now limits.now span × (fault.new ≡ deep_fault (chars source.now) span) }
-    ensures too_many { result ≡ TOO_MANY_TOKENS → (span : places.Span) × HasTokenTooMany source.now limits.now span × (fault.new ≡ many_fault (chars source.now) span) }
-    ensures memory { result ≡ OUT_OF_MEMORY → IsUtf8 source.now }
-    ensures not_utf8 { result ≡ NOT_UTF8 → ¬ IsUtf8 source.now }
-    ensures too_long { result ≡ SOURCE_TOO_LONG ↔ 2 ^ 32 ≤ length source.now }
-    ensures limits_refused { result ≡ INVALID_LIMIT ↔ (AreInvalid limits.now × (length source.now < 2 ^ 32)) }
+    ensures failures { ReportsFailure source.now limits.now nodes.old nodes.new texts.old texts.new fault.new result }
 
-    // What is left unchanged: the buffers where the source isn't read. While it is parsed nodes are written into them.
-    ensures buffers_kept { (result ≡ NOT_UTF8) ⊎ ((result ≡ SOURCE_TOO_LONG) ⊎ (result ≡ INVALID_LIMIT)) → (nodes.new ≡ nodes.old) × (texts.new ≡ texts.old) }
+    // What is left unchanged.
     ensures no_counts { result ≢ OK → result ≢ BUFFER_TOO_SMALL → (nodes_length.new ≡ 0) × (texts_length.new ≡ 0) }
     ensures fault_kept { result ≢ SYNTAX_ERROR → result ≢ TOO_DEEP → result ≢ TOO_MANY_TOKENS → fault.new ≡ fault.old }
 {

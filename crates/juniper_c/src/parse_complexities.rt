@@ -1,13 +1,11 @@
 //! A source's nodes and the complexities of its operations, in the caller's memory.
-ghost use Rattle.std.specs.Prelude.{◌≡◌, ◌≢◌, ◌<◌, ◌≤◌, ◌^◌, ◌⊎◌, ◌↔◌, List, length, IsUtf8};
+ghost use Rattle.std.specs.Prelude.{◌≡◌, ◌≢◌, ◌<◌, ◌≤◌, ◌⊎◌, List, length};
 ghost use Rattle.std.specs.Str.{chars};
 ghost use Rattle.graphql_lexical.specs.Place as places;
 ghost use Rattle.graphql_grammar.specs.Tree.{Definition};
-ghost use Rattle.juniper_tokens.specs.Errors as errors;
 ghost use Rattle.juniper_values.specs.Scalar.{Content};
-ghost use Rattle.juniper_flat.specs.Answers.{HasDocument, HasRefusal, HasDeepToken, HasTokenTooMany, Begins, Fills, nodes_of, texts_of};
-ghost use Rattle.juniper_flat.specs.Faults.{written_fault, deep_fault, many_fault, unknown_fault, cycle_fault};
-ghost use Rattle.juniper_flat.specs.Limits.{AreInvalid};
+ghost use Rattle.juniper_flat.specs.Answers.{HasDocument, ReportsFailure, Begins, Fills, nodes_of, texts_of};
+ghost use Rattle.juniper_flat.specs.Faults.{unknown_fault, cycle_fault};
 ghost use Rattle.juniper_flat.specs.Weighed.{HasUnknown, HasCycle, HaveNumbers, IsWeighedStatus};
 ghost use Rattle.juniper_flat.specs.declared.numbers.Numbers.{Numbers as Weights};
 
@@ -66,16 +64,9 @@ pub extern "C" fn firthnapkin_parse_complexities(
         × Fills (nodes_of source.now tree) nodes.old nodes.new × Fills (texts_of tree) texts.old texts.new
         × (nodes_length.new ≡ length (nodes_of source.now tree)) × (texts_length.new ≡ length (texts_of tree))
         × ((span : places.Span) × HasCycle tree span × (fault.new ≡ cycle_fault (chars source.now) span)) }
-    ensures refused { result ≡ SYNTAX_ERROR → (found : errors.Fault) × HasRefusal source.now limits.now found × (fault.new ≡ written_fault (chars source.now) found) }
-    ensures too_deep { result ≡ TOO_DEEP → (span : places.Span) × HasDeepToken source.now limits.now span × (fault.new ≡ deep_fault (chars source.now) span) }
-    ensures too_many { result ≡ TOO_MANY_TOKENS → (span : places.Span) × HasTokenTooMany source.now limits.now span × (fault.new ≡ many_fault (chars source.now) span) }
-    ensures memory { result ≡ OUT_OF_MEMORY → IsUtf8 source.now }
-    ensures not_utf8 { result ≡ NOT_UTF8 → ¬ IsUtf8 source.now }
-    ensures too_long { result ≡ SOURCE_TOO_LONG ↔ 2 ^ 32 ≤ length source.now }
-    ensures limits_refused { result ≡ INVALID_LIMIT ↔ (AreInvalid limits.now × (length source.now < 2 ^ 32)) }
+    ensures failures { ReportsFailure source.now limits.now nodes.old nodes.new texts.old texts.new fault.new result }
 
-    // What is left unchanged: the buffers where the source isn't read. While it is parsed nodes are written into them.
-    ensures buffers_kept { (result ≡ NOT_UTF8) ⊎ ((result ≡ SOURCE_TOO_LONG) ⊎ (result ≡ INVALID_LIMIT)) → (nodes.new ≡ nodes.old) × (texts.new ≡ texts.old) }
+    // What is left unchanged.
     ensures complexities_kept { result ≢ OK → result ≢ BUFFER_TOO_SMALL → (complexities.new ≡ complexities.old) × (complexities_length.new ≡ 0) }
     ensures no_counts { result ≢ OK → result ≢ BUFFER_TOO_SMALL → result ≢ UNKNOWN_FRAGMENT → result ≢ FRAGMENT_CYCLE → (nodes_length.new ≡ 0) × (texts_length.new ≡ 0) }
     ensures fault_kept { (result ≡ OK) ⊎ ((result ≡ BUFFER_TOO_SMALL) ⊎ ((result ≡ NOT_UTF8) ⊎ ((result ≡ OUT_OF_MEMORY) ⊎ ((result ≡ SOURCE_TOO_LONG) ⊎ (result ≡ INVALID_LIMIT))))) → fault.new ≡ fault.old }

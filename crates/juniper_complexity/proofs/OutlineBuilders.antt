@@ -30,35 +30,35 @@ use Rattle.juniper_complexity.proofs.Algebra.{same_complexity, plus_assoc, plus_
 
 -- ---- parts without selections
 
-module _ {X A : Type 0} where
-  pub kept_each : (a b : OutlineBuilder) (xs : List X) (ps : List A) → BuildsEach Keeps a b xs ps → a ≡ b
+module _ {B X A : Type 0} where
+  pub kept_each : (a b : B) (xs : List X) (ps : List A) → BuildsEach Keeps a b xs ps → a ≡ b
   kept_each a b [] [] same = same
   kept_each a b [] (p ∷ ps) some = absurd some
   kept_each a b (x ∷ xs) [] some = absurd some
   kept_each a b (x ∷ xs) (p ∷ ps) some = some.1 ∙ kept_each some.0 b xs ps some.2
 
-  as_many_parts : (a b : OutlineBuilder) (xs : List X) (ps : List A) → BuildsEach Keeps a b xs ps
+  as_many_parts : (a b : B) (xs : List X) (ps : List A) → BuildsEach Keeps a b xs ps
       → length xs ≡ length ps
   as_many_parts a b [] [] same = refl
   as_many_parts a b [] (p ∷ ps) some = absurd some
   as_many_parts a b (x ∷ xs) [] some = absurd some
   as_many_parts a b (x ∷ xs) (p ∷ ps) some = ap suc (as_many_parts some.0 b xs ps some.2)
 
-  pub kept_optional : (a b : OutlineBuilder) (x : Option X) (p : Option A) → BuildsOptional Keeps a b x p → a ≡ b
+  pub kept_optional : (a b : B) (x : Option X) (p : Option A) → BuildsOptional Keeps a b x p → a ≡ b
   kept_optional a b None None same = same
   kept_optional a b None (Some p) some = absurd some
   kept_optional a b (Some x) None some = absurd some
   kept_optional a b (Some x) (Some p) one = one
 
-pub kept_directives : (a b : OutlineBuilder) (x : Option PartCount) (ds : Directives Content) → KeepsDirectives a b x ds
-    → a ≡ b
+pub kept_directives : {B : Type 0} (a b : B) (x : Option PartCount) (ds : Directives Content)
+    → KeepsDirectives a b x ds → a ≡ b
 kept_directives a b None None same = same
 kept_directives a b None (Some ds) some = absurd some
 kept_directives a b (Some x) None some = absurd some
 kept_directives a b (Some x) (Some ds) each = kept_each a b (gathered x) ds each
 
--- as many as were read are counted
-pub directives_counted : (a b : OutlineBuilder) (x : Option PartCount) (ds : Directives Content)
+-- those that were read are counted
+pub directives_counted : {B : Type 0} (a b : B) (x : Option PartCount) (ds : Directives Content)
     → KeepsDirectives a b x ds → counted_directives x ≡ directives_complexity ds
 directives_counted a b None None same = refl
 directives_counted a b None (Some ds) some = absurd some

@@ -31,7 +31,7 @@ gathers_counts a b c n m g h =
 
 -- ---- of definitions that are built
 
-pub gathers_variables : (a b : OutlineBuilder) (xs : List (Unit {0})) (vs : List (tree.VariableDefinition Content))
+gathers_variables : (a b : OutlineBuilder) (xs : List (Unit {0})) (vs : List (tree.VariableDefinition Content))
     → BuildsEach GathersVariable a b xs vs
     → Gathers a b (λ _. only_directives (directives_of_variables vs)) (λ _. [])
 gathers_variables a b [] [] same =
@@ -43,13 +43,13 @@ gathers_variables a b (x ∷ xs) (v ∷ vs) some =
     (gathers_variables some.0 b xs vs some.2)
 
 pub gathers_optional_variables : (a b : OutlineBuilder) (x : Option (Unit {0})) (vs : Option (Variables Content))
-    → BuildsOptional GathersVariables a b x vs
+    → BuildsOptional (GathersVariables GathersVariable) a b x vs
     → Gathers a b (λ _. only_directives (variable_directive_count vs)) (λ _. [])
 gathers_optional_variables a b None None same =
     subst (λ (z : OutlineBuilder). Gathers a z (λ _. nothing) (λ _. [])) same (gathers_none a)
 gathers_optional_variables a b None (Some vs) some = absurd some
 gathers_optional_variables a b (Some x) None some = absurd some
-gathers_optional_variables a b (Some x) (Some vs) one = one
+gathers_optional_variables a b (Some x) (Some vs) each = gathers_variables a b each.0 vs.item each.1
 
 -- ---- of a tree's definitions
 

@@ -3,11 +3,9 @@ use Rattle.std.specs.Prelude.{◌≡◌, ℕ, suc, List, [], ◌∷◌, ◌++◌
 use Rattle.std.specs.Str.{chars}
 use Rattle.graphql_grammar.specs.Tokens.{Text, Word}
 use Rattle.graphql_grammar.specs.Tree as tree
-use Rattle.graphql_grammar.specs.Tree.{Arguments, Directives, VariableDefinition, Variables, Selections}
-use Rattle.graphql_grammar.specs.Tree.{OptionalSelections, Definition}
-use Rattle.juniper.specs.Building.{BuildsList, BuildsOptional, BuildsOptionalSet, BuildsSet, Opened, a_list, an_object}
-use Rattle.juniper.specs.Building.{an_object_field, some_arguments, an_argument, a_directive, a_field, a_spread}
-use Rattle.juniper.specs.Building.{an_inline_fragment, some_variables, a_variable, an_operation, a_fragment}
+use Rattle.graphql_grammar.specs.Tree.{Directives, VariableDefinition, Variables, Selections, OptionalSelections}
+use Rattle.graphql_grammar.specs.Tree.{Definition}
+use Rattle.juniper.specs.Building.{BuildsEach, BuildsList, BuildsOptional, BuildsOptionalSet, BuildsSet}
 use Rattle.juniper_tokens.specs.Spans.{view_span}
 use Rattle.juniper_values.specs.Scalar.{Content}
 use Rattle.juniper_outlines.specs.Complexities.{nothing, plus, capped, capped_complexity}
@@ -15,8 +13,8 @@ use Rattle.juniper_outlines.specs.Sums.{at_level}
 use Rattle.juniper_outlines.specs.declared.complexity.Complexity.{Complexity}
 use Rattle.juniper_outlines.specs.declared.outline.DefinitionOutline.{DefinitionOutline}
 use Rattle.juniper_outlines.specs.declared.outline.NamedSpread.{NamedSpread}
-use Rattle.juniper_complexity.specs.Parts.{Reference, directives_complexity, directives_of_variables, field_complexity}
-use Rattle.juniper_complexity.specs.Parts.{only_directives, spreads_of, spreads_of_definition}
+use Rattle.juniper_complexity.specs.Parts.{Reference, directives_complexity, field_complexity, only_directives}
+use Rattle.juniper_complexity.specs.Parts.{spreads_of, spreads_of_definition}
 use Rattle.juniper_complexity.specs.device.BySpreads.{own_of, own_of_definition}
 use Rattle.juniper_complexity.specs.declared.outline_builder.DefinitionOutlines.{DefinitionOutlines}
 use Rattle.juniper_complexity.specs.declared.outline_builder.OutlineBuilder.{OutlineBuilder}
@@ -85,27 +83,7 @@ pub record Begins (it : OutlineBuilder) : Type 0 where
   pub no_spread : it.spreads.items ≡ []
   pub no_field : it.level ≡ 0
 
--- A part is opened, and so many fields were around it.
-abbrev pub Opens : OutlineBuilder → OutlineBuilder → ℕ → Opened → Type 0
-Opens old new around a_list = old ≡ new
-Opens old new around an_object = old ≡ new
-Opens old new around (an_object_field key) = old ≡ new
-Opens old new around some_arguments = old ≡ new
-Opens old new around (an_argument name) = old ≡ new
-Opens old new around (a_directive name) = old ≡ new
-Opens old new around (a_field alias name) = (around ≡ old.level) × OpensField old new alias
-Opens old new around (a_spread name) = OpensSpread old new name
-Opens old new around (an_inline_fragment condition) = old ≡ new
-Opens old new around some_variables = old ≡ new
-Opens old new around (a_variable name type) = old ≡ new
-Opens old new around (an_operation type name) = Begins new
-Opens old new around (a_fragment name condition) = Begins new
-
 -- ---- what is built
-
--- a part without selections leaves the builder as it is
-abbrev pub Keeps : {X A : Type 0} → OutlineBuilder → OutlineBuilder → X → A → Type 0
-Keeps old new x part = old ≡ new
 
 abbrev pub GathersSelection : OutlineBuilder → OutlineBuilder → Unit {0} → tree.Selection Content → Type 0
 GathersSelection old new x s = Gathers old new (λ l. own_of l s) (λ l. spreads_of l s)
@@ -119,18 +97,22 @@ abbrev pub counted_directives : Option PartCount → Complexity
 counted_directives None = nothing
 counted_directives (Some parts) = only_directives parts.count
 
-abbrev pub KeepsArguments : OutlineBuilder → OutlineBuilder → Option (Unit {0}) → Option (Arguments Content) → Type 0
-KeepsArguments = BuildsOptional Keeps
+module _ {B : Type 0} where
+  -- a part that isn't reported leaves the builder as it is
+  abbrev pub Keeps : {X A : Type 0} → B → B → X → A → Type 0
+  Keeps old new x part = old ≡ new
 
-abbrev pub KeepsDirectives : OutlineBuilder → OutlineBuilder → Option PartCount → Directives Content → Type 0
-KeepsDirectives = BuildsOptional (BuildsList Keeps gathered)
+  abbrev pub KeepsDirectives : B → B → Option PartCount → Directives Content → Type 0
+  KeepsDirectives = BuildsOptional (BuildsList Keeps gathered)
+
+  -- By what is gathered of a variable definition: what was gathered of those of an operation.
+  abbrev pub GathersVariables : (B → B → Unit {0} → VariableDefinition Content → Type 0) → B → B → Unit {0}
+      → Variables Content → Type 0
+  GathersVariables gathers old new x vs = (parts : List (Unit {0})) × BuildsEach gathers old new parts vs.item
 
 -- the directives of a variable definition are counted
 abbrev pub GathersVariable : OutlineBuilder → OutlineBuilder → Unit {0} → VariableDefinition Content → Type 0
 GathersVariable old new x v = Gathers old new (λ _. directives_complexity v.directives) (λ _. [])
-
-abbrev pub GathersVariables : OutlineBuilder → OutlineBuilder → Unit {0} → Variables Content → Type 0
-GathersVariables old new x vs = Gathers old new (λ _. only_directives (directives_of_variables vs.item)) (λ _. [])
 
 abbrev pub GathersSet : OutlineBuilder → OutlineBuilder → PartCount → Selections Content → Type 0
 GathersSet = BuildsSet GathersSelection gathered

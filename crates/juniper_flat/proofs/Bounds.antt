@@ -37,8 +37,8 @@ pub lengths_within : (source : List ℕ) (limits : Limits) (old_nodes new_nodes 
     → ReturnsParsed source limits old_nodes new_nodes old_texts new_texts result
     → IfTree result (λ lengths. (lengths.nodes ≤ length source) × (lengths.texts ≤ length source))
 lengths_within source limits on nn ot nt (Ok (parsed.Tree lengths)) h =
-    let within = within_source source limits h.1.0 h.1.1 in
-    (omega (arith, within.0, h.1.4), omega (arith, within.1, h.1.5))
+    let within = within_source source limits h.1.0 h.1.1.document in
+    (omega (arith, within.0, h.1.1.nodes_count), omega (arith, within.1, h.1.1.texts_count))
 lengths_within source limits on nn ot nt (Ok (parsed.Refused fault)) h = tt
 lengths_within source limits on nn ot nt (Ok (parsed.TooDeep fault)) h = tt
 lengths_within source limits on nn ot nt (Ok (parsed.TooMany fault)) h = tt

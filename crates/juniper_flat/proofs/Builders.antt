@@ -6,13 +6,11 @@ use Rattle.std.specs.List.{FoldsTo, concat}
 use Rattle.std.specs.Prelude.{encode_utf8_all}
 use Rattle.graphql_lexical.specs.Place as places
 use Rattle.graphql_grammar.specs.Tokens.{Word, Located}
-use Rattle.graphql_grammar.specs.Tree.{Value, Selection, Selections, OptionalSelections, items_of, fields_of}
-use Rattle.graphql_grammar.specs.Tree.{selections_of, absent, present}
-use Rattle.graphql_nodes.specs.Nodes.{Node, Label, Unnamed, Named, OnType, name_of, over, if_present, each, value_nodes}
+use Rattle.graphql_grammar.specs.Tree.{Value, Selection, items_of, fields_of, selections_of}
+use Rattle.graphql_nodes.specs.Nodes.{Node, Label, Unnamed, Named, OnType, name_of, over, each, value_nodes}
 use Rattle.graphql_nodes.specs.Nodes.{items_nodes, fields_nodes, selection_nodes, selections_nodes, optional_nodes}
 use Rattle.graphql_nodes.specs.Nodes.{nodes_at}
 use Rattle.graphql_nodes.specs.declared.kind.NodeKind.{NodeKind}
-use Rattle.juniper.specs.Building.{BuildsEach, BuildsList, BuildsOptional, BuildsOptionalSet, BuildsSet}
 use Rattle.juniper_values.specs.Scalar.{Content}
 use Rattle.juniper_nodes.specs.NodeTexts.{node_texts, text_of_node}
 use Rattle.juniper_flat.specs.ByteTables.{IsTableOf}
@@ -87,79 +85,22 @@ adds_more a b c ns ms p q = record {
       };
 }
 
--- nothing is written at parts that are absent, and of parts in a row what is written of each
-module _ {X A : Type 0} (nodes : A → List (Node Content)) where
-  abbrev AddsNodes : NodeBuilder → NodeBuilder → X → A → Type 0
-  AddsNodes old new x part = Adds old new (nodes part)
-
-  pub adds_each : (a b : NodeBuilder) (xs : List X) (ps : List A) → BuildsEach AddsNodes a b xs ps → Adds a b (each nodes ps)
-  unfolding each
-  adds_each a b [] [] same = adds_none a b same
-  adds_each a b [] (p ∷ ps) some = absurd some
-  adds_each a b (x ∷ xs) [] some = absurd some
-  adds_each a b (x ∷ xs) (p ∷ ps) some =
-      adds_more a some.0 b (nodes p) (each nodes ps) some.1 (adds_each some.0 b xs ps some.2)
-
-  pub adds_optional : (a b : NodeBuilder) (x : Option X) (p : Option A) → BuildsOptional AddsNodes a b x p
-      → Adds a b (if_present nodes p)
-  adds_optional a b None None same = adds_none a b same
-  adds_optional a b None (Some p) some = absurd some
-  adds_optional a b (Some x) None some = absurd some
-  adds_optional a b (Some x) (Some p) one = one
-
-module _ {L X A : Type 0} (nodes : A → List (Node Content)) (gathered : L → List X) where
-  pub adds_list : (a b : NodeBuilder) (x : Option L) (p : Option (List A))
-      → BuildsOptional (BuildsList (λ (old new : NodeBuilder) (x : X) (part : A). Adds old new (nodes part)) gathered) a b x p
-      → Adds a b (if_present (each nodes) p)
-  adds_list a b None None same = adds_none a b same
-  adds_list a b None (Some ps) some = absurd some
-  adds_list a b (Some xs) None some = absurd some
-  adds_list a b (Some xs) (Some ps) some = adds_each nodes a b (gathered xs) ps some
-
 -- ---- selections, items and fields
 
-selections_each : (ss : List (Selection Content)) → selections_nodes (selections_of ss) ≡ each selection_nodes ss
+pub selections_each : (ss : List (Selection Content)) → selections_nodes (selections_of ss) ≡ each selection_nodes ss
 unfolding each selection_nodes selections_nodes optional_nodes
 selections_each [] = refl
 selections_each (s ∷ ss) = ap (λ ns. selection_nodes s ++ ns) (selections_each ss)
 
-items_each : (vs : List (Located (Value Content))) → items_nodes (items_of vs) ≡ each value_nodes vs
+pub items_each : (vs : List (Located (Value Content))) → items_nodes (items_of vs) ≡ each value_nodes vs
 unfolding each nodes_at items_nodes fields_nodes
 items_each [] = refl
 items_each (v ∷ vs) = ap (λ ns. value_nodes v ++ ns) (items_each vs)
 
-fields_each : (fs : List (Word × Located (Value Content))) → fields_nodes (fields_of fs) ≡ each field_nodes fs
+pub fields_each : (fs : List (Word × Located (Value Content))) → fields_nodes (fields_of fs) ≡ each field_nodes fs
 unfolding each nodes_at items_nodes fields_nodes
 fields_each [] = refl
 fields_each (f ∷ fs) = ap (λ ns. field_nodes f ++ ns) (fields_each fs)
-
-module _ {L X : Type 0} (gathered : L → List X) where
-  abbrev AddsSelection : NodeBuilder → NodeBuilder → X → Selection Content → Type 0
-  AddsSelection old new x s = Adds old new (selection_nodes s)
-
-  pub adds_set : (a b : NodeBuilder) (x : L) (set : Selections Content) → BuildsSet AddsSelection gathered a b x set
-      → Adds a b (selections_nodes set)
-  adds_set a b x set h =
-      subst (Adds a b) (sym (selections_each h.selections) ∙ ap selections_nodes h.are)
-      (adds_each selection_nodes a b (gathered x) h.selections h.are_built)
-
-  pub adds_optional_set : (a b : NodeBuilder) (x : Option L) (set : OptionalSelections Content)
-      → BuildsOptionalSet AddsSelection gathered a b x set → Adds a b (optional_nodes set)
-  unfolding selection_nodes selections_nodes optional_nodes
-  adds_optional_set a b None absent same = adds_none a b same
-  adds_optional_set a b None (present set) some = absurd some
-  adds_optional_set a b (Some x) absent some = absurd some
-  adds_optional_set a b (Some x) (present set) one = adds_set a b x set one
-
-pub adds_items : {X : Type 0} (a b : NodeBuilder) (xs : List X) (vs : List (Located (Value Content)))
-    → BuildsEach (λ (old new : NodeBuilder) (x : X) (v : Located (Value Content)). Adds old new (value_nodes v)) a b xs vs
-    → Adds a b (items_nodes (items_of vs))
-adds_items a b xs vs h = subst (Adds a b) (sym (items_each vs)) (adds_each value_nodes a b xs vs h)
-
-pub adds_fields : {X : Type 0} (a b : NodeBuilder) (xs : List X) (fs : List (Word × Located (Value Content)))
-    → BuildsEach (λ (old new : NodeBuilder) (x : X) (f : Word × Located (Value Content)). Adds old new (field_nodes f)) a b xs fs
-    → Adds a b (fields_nodes (fields_of fs))
-adds_fields a b xs fs h = subst (Adds a b) (sym (fields_each fs)) (adds_each field_nodes a b xs fs h)
 
 -- ---- a node and those of the parts in it
 

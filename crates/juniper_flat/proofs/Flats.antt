@@ -1,23 +1,20 @@
 -- The nodes of a document that were written into the caller's buffers.
 use Rattle.std.specs.Borrow.{Bor}
-use Rattle.std.proofs.Common.{◌≡◌, ◌∙◌, ℕ, ◌+◌, ◌<◌, ◌^◌, List, length, sym, ap, ap₂, subst, arith, Ok}
+use Rattle.std.proofs.Common.{◌≡◌, ◌∙◌, ℕ, ◌+◌, ◌<◌, ◌^◌, List, length, sym, ap, ap₂, subst, arith}
 use Rattle.std.specs.Prelude.{encode_utf8_all}
-use Rattle.std.specs.Str.{chars, IsUtf8}
+use Rattle.std.specs.Str.{chars}
 use Rattle.graphql_grammar.specs.Tree.{Definition}
 use Rattle.juniper_values.specs.Scalar.{Content}
 use Rattle.graphql_nodes.specs.Nodes.{document_nodes}
-use Rattle.juniper.specs.Limited.{HasFewTokens}
-use Rattle.juniper.specs.Within.{IsWithin}
 use Rattle.juniper_nodes.specs.NodeTexts.{node_texts}
-use Rattle.juniper_flat.specs.Answers.{Fills, HasDocument, ReturnsParsed, nodes_of, scalars, texts_of}
-use Rattle.juniper_flat.specs.Builders.{Adds, BuildsNodes, Fit, with_written}
-use Rattle.juniper_flat.specs.Weighed.{HasNodes}
+use Rattle.juniper_flat.specs.Answers.{Fills, HasDocument, HasNodes, nodes_of, texts_of}
+use Rattle.juniper_flat.specs.Builders.{Adds, Fit, with_written}
+use Rattle.juniper_flat.specs.Buildings.{AreOutlined, BuildsNodes}
 use Rattle.juniper_flat.specs.ByteTables.{IsTableOf}
 use Rattle.juniper_flat.specs.Fits.{NodesFit}
 use Rattle.juniper_flat.specs.Nodes.{written_nodes}
 use Rattle.juniper_flat.specs.declared.builder.NodeBuilder.{NodeBuilder}
 use Rattle.juniper_flat.specs.declared.byte_table.ByteTable.{ByteTable}
-use Rattle.juniper_flat.specs.declared.flat.Parsed.TheVariants as parsed
 use Rattle.juniper_flat.specs.declared.limits.Limits.{Limits}
 use Rattle.juniper_flat.specs.declared.node.Node.{Node}
 use Rattle.juniper_flat.proofs.Bounds.{within_source, written-length}
@@ -66,16 +63,17 @@ has_nodes text limits first last old_nodes old_texts nodes texts tree document f
       texts_count = omega (arith, w.texts_count, texts.1);
     }
 
-pub tree_written : (text : List ℕ) (limits : Limits) → IsUtf8 text → length text < 2 ^ 32 → (first last : NodeBuilder)
-    (old_nodes : List Node) (old_texts : List ℕ)
+-- what a builder that began with nothing has written in the end
+pub nodes_written : {D : Type 0} (outlines : D → ℕ → Definition Content → Type 0) (text : List ℕ) (limits : Limits)
+    → length text < 2 ^ 32 → (first last : NodeBuilder) (old_nodes : List Node) (old_texts : List ℕ) (gathered : List D)
     → (first.nodes.now ≡ old_nodes) × (first.nodes_length ≡ 0) → (first.texts.now ≡ old_texts) × (first.texts_length ≡ 0)
-    → {table : Bor ByteTable} → first.table ≡ table → IsTableOf (chars text) table.now → BuildsNodes (chars text) first last
-    → IsWithin scalars limits.depth (chars text) → HasFewTokens limits.tokens (chars text)
-    → ReturnsParsed text limits old_nodes last.nodes.now old_texts last.texts.now
-    (Ok (parsed.Tree (record { nodes = last.nodes_length; texts = last.texts_length })))
-tree_written text limits utf8 short first last old_nodes old_texts nodes texts same table built shallow few =
-    let document : HasDocument text limits built.tree =
-    record { utf8 = utf8; has_tree = built.has_tree; within = shallow; few = few } in
-    let fit = first_fit text limits short first nodes.1 texts.1 same table built.tree document in
-    let w = has_nodes text limits first last old_nodes old_texts nodes texts built.tree document fit built.adds in
-    (short, (built.tree, document, w.nodes, w.texts, w.nodes_count, w.texts_count))
+    → {table : Bor ByteTable} → first.table ≡ table → IsTableOf (chars text) table.now
+    → (built : BuildsNodes outlines text limits first last gathered)
+    → HasNodes text limits built.tree old_nodes last.nodes.now old_texts last.texts.now
+    (record { nodes = last.nodes_length; texts = last.texts_length })
+    × AreOutlined outlines 0 gathered built.tree
+nodes_written outlines text limits short first last old_nodes old_texts gathered nodes texts same table built =
+    let fit = first_fit text limits short first nodes.1 texts.1 same table built.tree built.document in (
+      has_nodes text limits first last old_nodes old_texts nodes texts built.tree built.document fit built.adds,
+      subst (λ (k : ℕ). AreOutlined outlines k gathered built.tree) nodes.1 (built.outlined fit.0 fit.1),
+    )

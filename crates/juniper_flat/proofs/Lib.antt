@@ -5,7 +5,7 @@ pub mod ShortScalars
 pub mod Bounds
 pub mod Writing
 pub mod Builders
-pub mod Both
+pub mod Buildings
 pub mod OperationNumbers
 pub mod WeighedBounds
 pub mod SpreadSpans

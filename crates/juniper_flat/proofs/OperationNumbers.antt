@@ -9,7 +9,7 @@ use Rattle.juniper_complexity.specs.Faults.{OperationsHave, no_definition, fragm
 use Rattle.juniper_outlines.specs.declared.outline.DefinitionOutline.{DefinitionOutline}
 use Rattle.juniper_outlines.specs.declared.operations.OperationComplexity.{OperationComplexity}
 use Rattle.juniper_values.specs.Scalar.{Content}
-use Rattle.juniper_flat.specs.Both.{AreMarked}
+use Rattle.juniper_flat.specs.Buildings.{AreMarked}
 
 -- a definition has a node
 one_node : (d : Definition Content) → 1 ≤ length (definition_nodes d)

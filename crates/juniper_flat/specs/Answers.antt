@@ -1,6 +1,6 @@
 -- What a call returns for a source, and what it leaves in the caller's memory.
-use Rattle.std.specs.Prelude.{◌≡◌, ◌≢◌, ◌<◌, ◌≤◌, ◌^◌, ℕ, List, [], ◌++◌, take, drop, length, encode_utf8_all, IsUtf8}
-use Rattle.std.specs.Prelude.{chars, Result, Ok, Err}
+use Rattle.std.specs.Prelude.{◌≡◌, ◌≢◌, ◌<◌, ◌≤◌, ◌^◌, ◌⊎◌, ◌↔◌, ℕ, List, [], ◌++◌, take, drop, length}
+use Rattle.std.specs.Prelude.{encode_utf8_all, IsUtf8, chars, Result, Ok, Err}
 use Rattle.graphql_lexical.specs.Place.{Span}
 use Rattle.graphql_grammar.specs.Tree.{Scalars, Definition}
 use Rattle.graphql_nodes.specs.Nodes.{document_nodes}
@@ -14,14 +14,20 @@ use Rattle.juniper_nodes.specs.NodeTexts.{node_texts}
 use Rattle.juniper_flat.specs.Nodes.{written_nodes}
 use Rattle.juniper_flat.specs.Scalars.{scalar_reading}
 use Rattle.juniper_flat.specs.Faults.{written_fault, deep_fault, many_fault}
+use Rattle.juniper_flat.specs.Limits.{AreInvalid}
 use Rattle.juniper_flat.specs.Sources.{IsUnread}
+use Rattle.juniper_flat.specs.declared.fault.Fault.{Fault}
 use Rattle.juniper_flat.specs.declared.source.Unread.{Unread}
 use Rattle.juniper_flat.specs.declared.source.Unread.TheVariants.{OutOfMemory}
+use Rattle.juniper_flat.specs.declared.flat.Failure.{Failure}
+use Rattle.juniper_flat.specs.declared.flat.Failure.TheVariants as failure
 use Rattle.juniper_flat.specs.declared.flat.Lengths.{Lengths}
 use Rattle.juniper_flat.specs.declared.flat.Parsed.{Parsed}
 use Rattle.juniper_flat.specs.declared.flat.Parsed.TheVariants as parsed
 use Rattle.juniper_flat.specs.declared.limits.Limits.{Limits}
 use Rattle.juniper_flat.specs.declared.node.Node.{Node}
+use Rattle.juniper_flat.specs.declared.status.TheConstants.{SYNTAX_ERROR, NOT_UTF8, OUT_OF_MEMORY, TOO_DEEP}
+use Rattle.juniper_flat.specs.declared.status.TheConstants.{TOO_MANY_TOKENS, SOURCE_TOO_LONG, INVALID_LIMIT}
 
 -- every scalar that a source can write is read
 abbrev pub scalars : Scalars Content errors.Error
@@ -60,6 +66,30 @@ pub record HasTokenTooMany (source : List ℕ) (limits : Limits) (span : Span) :
   pub utf8 : IsUtf8 source
   pub many : HasMore [] (chars source) limits.tokens span
 
+-- ---- what is wrong with a source
+
+-- the error is the fault of a source that is no document
+abbrev pub IsSyntaxError : List ℕ → Limits → Fault → Type 0
+IsSyntaxError source limits error =
+    (found : errors.Fault) × HasRefusal source limits found × (error ≡ written_fault (chars source) found)
+
+-- the error is at the first token that is nested too deep
+abbrev pub IsTooDeep : List ℕ → Limits → Fault → Type 0
+IsTooDeep source limits error =
+    (span : Span) × HasDeepToken source limits span × (error ≡ deep_fault (chars source) span)
+
+-- the error is at the first token past the limit
+abbrev pub IsTooMany : List ℕ → Limits → Fault → Type 0
+IsTooMany source limits error =
+    (span : Span) × HasTokenTooMany source limits span × (error ≡ many_fault (chars source) span)
+
+-- why a source has no tree within the limits
+abbrev pub IsFailure : List ℕ → Limits → Failure → Type 0
+IsFailure source limits (failure.Refused error) = IsSyntaxError source limits error
+IsFailure source limits (failure.TooDeep error) = IsTooDeep source limits error
+IsFailure source limits (failure.TooMany error) = IsTooMany source limits error
+IsFailure source limits failure.OutOfMemory = Unit {0}
+
 -- ---- what is reported
 
 -- the nodes of a tree
@@ -80,18 +110,26 @@ Fills xs old new = new ≡ take (length old) xs ++ drop (length xs) old
 
 -- ---- what is written
 
+-- The source is a document with this tree within the limits, and its nodes and their texts are in the buffers as far as
+-- they fit.
+pub record HasNodes (source : List ℕ) (limits : Limits) (tree : List (Definition Content))
+    (old_nodes new_nodes : List Node) (old_texts new_texts : List ℕ) (lengths : Lengths) : Type 0 where
+  pub document : HasDocument source limits tree
+  pub nodes : Fills (nodes_of source tree) old_nodes new_nodes
+  pub texts : Fills (texts_of tree) old_texts new_texts
+  pub nodes_count : lengths.nodes ≡ length (nodes_of source tree)
+  pub texts_count : lengths.texts ≡ length (texts_of tree)
+
 -- How many nodes and bytes of texts a source has, with as many of them in the buffers as fit; or why it has none.
 abbrev pub ReturnsParsed : List ℕ → Limits → List Node → List Node → List ℕ → List ℕ → Result Parsed Unread → Type 0
 ReturnsParsed source limits old_nodes new_nodes old_texts new_texts (Ok (parsed.Tree lengths)) = (length source < 2 ^ 32)
-    × ((tree : List (Definition Content)) × HasDocument source limits tree
-    × Fills (nodes_of source tree) old_nodes new_nodes × Fills (texts_of tree) old_texts new_texts
-    × (lengths.nodes ≡ length (nodes_of source tree)) × (lengths.texts ≡ length (texts_of tree)))
-ReturnsParsed source limits old_nodes new_nodes old_texts new_texts (Ok (parsed.Refused fault)) = (length source < 2 ^ 32)
-    × ((found : errors.Fault) × HasRefusal source limits found × (fault ≡ written_fault (chars source) found))
-ReturnsParsed source limits old_nodes new_nodes old_texts new_texts (Ok (parsed.TooDeep fault)) = (length source < 2 ^ 32)
-    × ((span : Span) × HasDeepToken source limits span × (fault ≡ deep_fault (chars source) span))
-ReturnsParsed source limits old_nodes new_nodes old_texts new_texts (Ok (parsed.TooMany fault)) = (length source < 2 ^ 32)
-    × ((span : Span) × HasTokenTooMany source limits span × (fault ≡ many_fault (chars source) span))
+    × ((tree : List (Definition Content)) × HasNodes source limits tree old_nodes new_nodes old_texts new_texts lengths)
+ReturnsParsed source limits old_nodes new_nodes old_texts new_texts (Ok (parsed.Refused fault)) =
+    (length source < 2 ^ 32) × IsSyntaxError source limits fault
+ReturnsParsed source limits old_nodes new_nodes old_texts new_texts (Ok (parsed.TooDeep fault)) =
+    (length source < 2 ^ 32) × IsTooDeep source limits fault
+ReturnsParsed source limits old_nodes new_nodes old_texts new_texts (Ok (parsed.TooMany fault)) =
+    (length source < 2 ^ 32) × IsTooMany source limits fault
 ReturnsParsed source limits old_nodes new_nodes old_texts new_texts (Err unread) = IsUnread source unread
     × (unread ≢ OutOfMemory → (new_nodes ≡ old_nodes) × (new_texts ≡ old_texts))
 
@@ -102,3 +140,19 @@ IfTree (Ok (parsed.Refused fault)) P = Unit {0}
 IfTree (Ok (parsed.TooDeep fault)) P = Unit {0}
 IfTree (Ok (parsed.TooMany fault)) P = Unit {0}
 IfTree (Err unread) P = Unit {0}
+
+-- ---- what is left in the caller's memory
+
+-- What a status says of a source that isn't a document within the limits, and which error is written. If the source
+-- isn't read the buffers are unchanged. While it is parsed nodes are written into them.
+pub record ReportsFailure (source : List ℕ) (limits : Limits) (old_nodes new_nodes : List Node)
+    (old_texts new_texts : List ℕ) (error : Fault) (status : ℕ) : Type 0 where
+  pub refused : status ≡ SYNTAX_ERROR → IsSyntaxError source limits error
+  pub too_deep : status ≡ TOO_DEEP → IsTooDeep source limits error
+  pub too_many : status ≡ TOO_MANY_TOKENS → IsTooMany source limits error
+  pub memory : status ≡ OUT_OF_MEMORY → IsUtf8 source
+  pub not_utf8 : status ≡ NOT_UTF8 → ¬ IsUtf8 source
+  pub too_long : status ≡ SOURCE_TOO_LONG ↔ 2 ^ 32 ≤ length source
+  pub limits_refused : status ≡ INVALID_LIMIT ↔ (AreInvalid limits × (length source < 2 ^ 32))
+  pub buffers_kept : (status ≡ NOT_UTF8) ⊎ ((status ≡ SOURCE_TOO_LONG) ⊎ (status ≡ INVALID_LIMIT))
+      → (new_nodes ≡ old_nodes) × (new_texts ≡ old_texts)

@@ -3,26 +3,19 @@ use Rattle.std.specs.Prelude.{◌≡◌, ◌+◌, ◌^◌, ◌<◌, ℕ, suc, Li
 use Rattle.std.specs.Prelude.{Result, Ok, Err, encode_utf8_all}
 use Rattle.graphql_lexical.specs.Place.{Span}
 use Rattle.graphql_grammar.specs.Tokens.{Located, Word}
-use Rattle.graphql_grammar.specs.Tree.{Value, Arguments, Directives, Variables, Selections, OptionalSelections}
-use Rattle.graphql_grammar.specs.Tree.{Definition}
-use Rattle.graphql_nodes.specs.Nodes.{Node, Label, Named, Typed, over, if_present, alias_nodes, document_nodes}
-use Rattle.graphql_nodes.specs.Nodes.{value_nodes, arguments_nodes, directive_nodes, variables_nodes, selection_nodes}
+use Rattle.graphql_grammar.specs.Tree.{Value}
+use Rattle.graphql_nodes.specs.Nodes.{Node, Label, Named, Typed, over, if_present, alias_nodes, value_nodes}
 use Rattle.graphql_nodes.specs.declared.kind.NodeKind.{NodeKind}
 use Rattle.graphql_nodes.specs.declared.kind.NodeKind.TheVariants as kind
-use Rattle.juniper.specs.Building.{FailsReading, BuildsList, BuildsOptional, BuildsOptionalSet, BuildsSet, Opened}
-use Rattle.juniper.specs.Building.{a_list, an_object}
-use Rattle.juniper_complexity.specs.Gathered.{gathered}
-use Rattle.juniper_complexity.specs.declared.outline_builder.PartCount.{PartCount}
-use Rattle.juniper.specs.Building.{an_object_field, some_arguments, an_argument, a_directive, a_field, a_spread}
-use Rattle.juniper.specs.Building.{an_inline_fragment, some_variables, a_variable, an_operation, a_fragment}
-use Rattle.juniper.specs.Promise.{HasTree}
+use Rattle.juniper.specs.Building.{FailsReading, Opened, a_list, an_object, an_object_field, some_arguments}
+use Rattle.juniper.specs.Building.{an_argument, a_directive, a_field, a_spread, an_inline_fragment, some_variables}
+use Rattle.juniper.specs.Building.{a_variable, an_operation, a_fragment}
 use Rattle.std.specs.Option.{unwrap_or}
 use Rattle.juniper_values.specs.Text.{Text}
 use Rattle.juniper_values.specs.Scalar.{Content, Reading}
 use Rattle.juniper_values.specs.declared.scalar.ReadFailure.{ReadFailure}
 use Rattle.juniper_nodes.specs.Literal.{str_in}
 use Rattle.juniper_nodes.specs.NodeTexts.{node_texts, text_of_label}
-use Rattle.juniper_flat.specs.Answers.{scalars}
 use Rattle.juniper_flat.specs.ByteTables.{IsTableOf}
 use Rattle.juniper_flat.specs.Fits.{NodesFit}
 use Rattle.juniper_flat.specs.Nodes.{byte_count, node_value, written_nodes}
@@ -125,31 +118,3 @@ Closes old new index kind span label = (first opened : NodeBuilder) (what : Open
 -- a node without descendants
 abbrev pub leaf : NodeKind → Span → Label → Option Content → Node Content
 leaf kind span label content = record { kind = kind; span = span; label = label; content = content; descendants = 0 }
-
--- ---- parts that may be absent
-
-abbrev pub AddsValue : NodeBuilder → NodeBuilder → Option (Unit {0}) → Option (Located (Value Content)) → Type 0
-AddsValue = BuildsOptional (λ old new x v. Adds old new (value_nodes v))
-
-abbrev pub AddsArguments : NodeBuilder → NodeBuilder → Option (Unit {0}) → Option (Arguments Content) → Type 0
-AddsArguments = BuildsOptional (λ old new x a. Adds old new (arguments_nodes a))
-
-abbrev pub AddsDirectives : NodeBuilder → NodeBuilder → Option PartCount → Directives Content → Type 0
-AddsDirectives = BuildsOptional (BuildsList (λ (old new : NodeBuilder) (x : Unit {0}) d. Adds old new (directive_nodes d)) gathered)
-
-abbrev pub AddsVariables : NodeBuilder → NodeBuilder → Option (Unit {0}) → Option (Variables Content) → Type 0
-AddsVariables = BuildsOptional (λ old new x v. Adds old new (variables_nodes v))
-
-abbrev pub AddsSet : NodeBuilder → NodeBuilder → PartCount → Selections Content → Type 0
-AddsSet = BuildsSet (λ (old new : NodeBuilder) (x : Unit {0}) s. Adds old new (selection_nodes s)) gathered
-
-abbrev pub AddsOptionalSet : NodeBuilder → NodeBuilder → Option PartCount → OptionalSelections Content → Type 0
-AddsOptionalSet = BuildsOptionalSet (λ (old new : NodeBuilder) (x : Unit {0}) s. Adds old new (selection_nodes s)) gathered
-
--- ---- a document
-
--- The source has a tree, and its nodes were written.
-pub record BuildsNodes (source : List ℕ) (old new : NodeBuilder) : Type 0 where
-  pub tree : List (Definition Content)
-  pub has_tree : HasTree scalars source tree
-  pub adds : Adds old new (document_nodes tree)

@@ -8,7 +8,8 @@ pub mod Limits
 pub mod Messages
 pub mod Answers
 pub mod Weighed
-pub mod Both
+pub mod Outliners
+pub mod Buildings
 pub mod Fits
 pub mod Builders
 pub mod Sources

@@ -6,7 +6,7 @@ use Rattle.graphql_nodes.specs.Nodes.{document_nodes}
 use Rattle.juniper_complexity.specs.Faults.{OperationsHave, FirstFault, OfUnknown, OfCycle}
 use Rattle.juniper_outlines.specs.declared.operations.OperationComplexity.{OperationComplexity}
 use Rattle.juniper_values.specs.Scalar.{Content}
-use Rattle.juniper_flat.specs.Answers.{HasDocument, Fills, ReturnsParsed, nodes_of, texts_of}
+use Rattle.juniper_flat.specs.Answers.{HasNodes, Fills, ReturnsParsed}
 use Rattle.juniper_flat.specs.Faults.{unknown_fault, cycle_fault}
 use Rattle.juniper_flat.specs.declared.flat.Lengths.{Lengths}
 use Rattle.juniper_flat.specs.declared.flat.Parsed.TheVariants as parsed
@@ -61,17 +61,6 @@ pub record HasCycle (tree : List (Definition Content)) (span : Span) : Type 0 wh
   pub fault : FirstFault tree definition (OfCycle span)
 
 -- ---- what is written
-
--- The source is a document with this tree within the limits, and its nodes and their texts are in the buffers as far as
--- they fit.
-pub record HasNodes (source : List ℕ) (limits : Limits) (tree : List (Definition Content))
-    (old_nodes new_nodes : List Node)
-    (old_texts new_texts : List ℕ) (lengths : Lengths) : Type 0 where
-  pub document : HasDocument source limits tree
-  pub nodes : Fills (nodes_of source tree) old_nodes new_nodes
-  pub texts : Fills (texts_of tree) old_texts new_texts
-  pub nodes_count : lengths.nodes ≡ length (nodes_of source tree)
-  pub texts_count : lengths.texts ≡ length (texts_of tree)
 
 module _ (source : List ℕ) (limits : Limits) (old_nodes new_nodes : List Node) (old_texts new_texts : List ℕ)
     (old_numbers new_numbers : List Numbers) where

@@ -1,7 +1,7 @@
 //! The nodes of a source, written into buffers while it is parsed.
 ghost use Rattle.std.specs.Prelude.{◌≡◌, ◌∷◌, [], ℕ, List, OnOk, option_map, set, encode_utf8_all};
-ghost use Rattle.graphql_nodes.specs.Nodes.{Unnamed, over};
-ghost use Rattle.juniper.specs.View.{view_type};
+ghost use Rattle.graphql_nodes.specs.Nodes.{Unnamed, alias_nodes, if_present, over};
+ghost use Rattle.juniper.specs.View.{view_type, view_word};
 ghost use Rattle.juniper_tokens.specs.Spans.{view_span};
 ghost use Rattle.juniper_tokens.specs.Tokens.{scalar_kind, scalar_text};
 ghost use Rattle.juniper_nodes.specs.Literal.{str_in};
@@ -14,8 +14,8 @@ ghost use Rattle.juniper_flat.specs.Builders.{Adds, AddsRead, AddsText, Closes, 
 ghost use Rattle.juniper_flat.specs.Scalars.{content_of, scalar_content, scalar_reading};
 ghost use Rattle.juniper_flat.specs.declared.builder.NodeBuilder.{NodeBuilder as Writer};
 
-pub(crate) mod both;
-mod building;
+pub(crate) mod building;
+pub(crate) mod outliner;
 
 use crate::buffer::write_bytes;
 use crate::byte_table::ByteTable;
@@ -23,7 +23,7 @@ use crate::flat::Lengths;
 use crate::form::{ScalarForm, form_of};
 use crate::node::{Node, written_node};
 use crate::scalar::{SourceScalar, read_int};
-use juniper::{ParseScalarValue, ReadFailure, ScalarToken, ScalarValue, Span, Type};
+use juniper::{ParseScalarValue, ReadFailure, ScalarToken, ScalarValue, Span, Spanning, Type};
 use juniper_nodes::{Label, NodeKind};
 use juniper_values::{write_block_string_value, write_string_value};
 use std::alloc::{AllocError, Global};
@@ -127,6 +127,17 @@ impl NodeBuilder<'_> {
     {
         let part = self.open();
         self.close(part, kind, span, label);
+    }
+
+    // Writes the node of an alias, if there is one.
+    #[inline(always)]
+    fn push_alias(&mut self, alias: &Option<Spanning<&str>>)
+        ensures { Adds self.old self.new (if_present alias_nodes (option_map view_word alias.now)) }
+    {
+        match alias {
+            None => {}
+            Some(alias) => self.push(NodeKind::Alias, &alias.span, Label::Name(alias)),
+        }
     }
 
     // Writes a node without descendants whose text is the end of the texts, from the byte `at` on.

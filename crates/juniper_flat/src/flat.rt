@@ -1,15 +1,17 @@
 //! The nodes of a source, in the caller's buffers.
 ghost use Rattle.std.specs.Prelude.{◌<◌, ◌≤◌, ◌^◌, ℕ, List, length, IfErr, IfOk};
 ghost use Rattle.std.specs.Str.{chars, IsUtf8};
-ghost use Rattle.juniper.specs.Limited.{FailsLimited, HasFewTokens};
-ghost use Rattle.juniper.specs.Within.{IsWithin};
-ghost use Rattle.juniper_flat.specs.Builders.{BuildsNodes, KeepsBuffers};
-ghost use Rattle.juniper_flat.specs.Answers.{ReturnsParsed, IfTree, scalars};
+ghost use Rattle.graphql_grammar.specs.Tree.{Definition};
+ghost use Rattle.juniper.specs.Limited.{FailsLimited};
+ghost use Rattle.juniper_values.specs.Scalar.{Content};
+ghost use Rattle.juniper_flat.specs.Answers.{HasNodes, IsFailure, ReturnsParsed, IfTree, scalars};
+ghost use Rattle.juniper_flat.specs.Buildings.{AreOutlined, BuildsNodes};
 ghost use Rattle.juniper_flat.specs.ByteTables.{IsTableOf};
 ghost use Rattle.juniper_flat.specs.declared.limits.Limits.{Limits as Bounds};
-ghost use Rattle.juniper_flat.specs.declared.node.Node.{Node as Written};
 
 use crate::builder::NodeBuilder;
+use crate::builder::building::Building;
+use crate::builder::outliner::{NoOutlines, Outliner};
 use crate::byte_table::ByteTable;
 use crate::fault::{Fault, deep_fault, many_fault, written_fault};
 use crate::limits::Limits;
@@ -18,6 +20,8 @@ use crate::scalar::SourceScalar;
 use crate::source::{Unread, text_of};
 use juniper::{LimitFailure, Limits as Within, ParseFailure, build_document_source};
 use std::alloc::Global;
+use std::marker::PhantomData;
+use std::mem;
 
 /// How many nodes a document has, and how many bytes their texts have one after another.
 #[derive(Clone, Copy)]
@@ -37,6 +41,15 @@ pub enum Parsed {
     TooDeep(Fault),
     /// There is a token past the limit, before the first lexical error.
     TooMany(Fault),
+}
+
+/// Why a source has no tree within the limits.
+#[derive(Clone, Copy)]
+pub(crate) enum Failure {
+    Refused(Fault),
+    TooDeep(Fault),
+    TooMany(Fault),
+    OutOfMemory,
 }
 
 /// Writes the nodes of a source's tree, each before those of the parts in it, and their texts one after another, as far as
@@ -70,63 +83,100 @@ fn write_nodes_of_text(
     ensures { ReturnsParsed text.now limits.now nodes.old nodes.new texts.old texts.new result }
 {
     let table = ByteTable::new(alloc, text)?;
-    write_nodes_of_table(alloc, &table, text, limits, nodes, texts)
-}
-
-fn write_nodes_of_table<'b>(
-    alloc: Global,
-    table: &'b ByteTable,
-    text: &'b str,
-    limits: &Limits,
-    nodes: &'b mut [Node],
-    texts: &'b mut [u8],
-) -> Result<Parsed, Unread>
-    requires short { length text.now < 2 ^ 32 }
-    requires table { IsTableOf (chars text.now) table.now }
-    ensures { ReturnsParsed text.now limits.now nodes.old nodes.new texts.old texts.new result }
-{
-    let mut builder = NodeBuilder::new(table, nodes, texts);
-    match build_nodes(alloc, text, limits, &mut builder) {
-        Ok(_) => Ok(Parsed::Tree(builder.lengths())),
-        Err(failure) => failed(table, failure),
+    match write_with(alloc, &table, text, limits, NoOutlines, nodes, texts) {
+        Ok((lengths, _)) => Ok(Parsed::Tree(lengths)),
+        Err(Failure::Refused(fault)) => Ok(Parsed::Refused(fault)),
+        Err(Failure::TooDeep(fault)) => Ok(Parsed::TooDeep(fault)),
+        Err(Failure::TooMany(fault)) => Ok(Parsed::TooMany(fault)),
+        Err(Failure::OutOfMemory) => Err(Unread::OutOfMemory),
     }
 }
 
-// Builds the nodes of a text within limits.
-fn build_nodes<'b>(
+/// Writes the nodes of a text within limits, and their texts, as far as the buffers reach. Returns how many there are, and
+/// what an outliner gathered of the definitions; or why there is no tree.
+pub(crate) fn write_with<'b, O: Outliner<'b>>(
     alloc: Global,
+    table: &ByteTable,
     text: &'b str,
     limits: &Limits,
-    builder: &mut NodeBuilder<'b>,
-) -> Result<(), LimitFailure>
-    ensures accepted { IfOk result (λ _. BuildsNodes (chars text.now) builder.old builder.new) }
-    ensures kept { IfOk result (λ _. KeepsBuffers builder.old builder.new) }
-    ensures within { IfOk result (λ _. IsWithin scalars limits.now.depth (chars text.now)) }
-    ensures few { IfOk result (λ _. HasFewTokens limits.now.tokens (chars text.now)) }
-    ensures failed { IfErr result (FailsLimited scalars limits.now.depth limits.now.tokens (chars text.now)) }
+    outlines: O,
+    nodes: &mut [Node],
+    texts: &mut [u8],
+) -> Result<(Lengths, O::Definitions), Failure>
+    requires short { length text.now < 2 ^ 32 }
+    requires table { IsTableOf (chars text.now) table.now }
+    ensures written { IfOk result (λ written. (tree : List (Definition Content)) × HasNodes text.now limits.now tree nodes.old nodes.new texts.old texts.new written.0 × AreOutlined O.outlines 0 (O.Definitions.gathered written.1) tree) }
+    ensures failed { IfErr result (IsFailure text.now limits.now) }
+{
+    let mut builder = NodeBuilder::new(table, nodes, texts);
+    let definitions = build_with(alloc, table, text, limits, outlines, &mut builder)?;
+    Ok((builder.lengths(), definitions))
+}
+
+// Builds the nodes of a text, and gathers of its definitions what an outliner does.
+fn build_with<'n, 'b, O: Outliner<'b>>(
+    alloc: Global,
+    table: &'n ByteTable,
+    text: &'b str,
+    limits: &Limits,
+    outlines: O,
+    builder: &mut NodeBuilder<'n>,
+) -> Result<O::Definitions, Failure>
+    requires short { length text.now < 2 ^ 32 }
+    requires table { IsTableOf (chars text.now) table.now }
+    ensures built { IfOk result (λ definitions. BuildsNodes O.outlines text.now limits.now builder.old builder.new (O.Definitions.gathered definitions)) }
+    ensures failed { IfErr result (IsFailure text.now limits.now) }
+{
+    // An empty builder takes its place meanwhile.
+    let nodes = mem::replace(builder, NodeBuilder::new(table, &mut [], &mut []));
+    let mut building = Building {
+        nodes,
+        outlines,
+        names: PhantomData,
+    };
+    let built = build_nodes(alloc, table, text, limits, &mut building);
+    let Building {
+        nodes: written,
+        outlines: _outlines,
+        names: _names,
+    } = building;
+    *builder = written;
+    built
+}
+
+fn build_nodes<'b, O: Outliner<'b>>(
+    alloc: Global,
+    table: &ByteTable,
+    text: &'b str,
+    limits: &Limits,
+    building: &mut Building<'_, 'b, O>,
+) -> Result<O::Definitions, Failure>
+    requires short { length text.now < 2 ^ 32 }
+    requires table { IsTableOf (chars text.now) table.now }
+    ensures built { IfOk result (λ definitions. BuildsNodes O.outlines text.now limits.now building.old.nodes building.new.nodes (O.Definitions.gathered definitions)) }
+    ensures failed { IfErr result (IsFailure text.now limits.now) }
 {
     let within = Within {
         depth: limits.depth as usize,
         tokens: limits.tokens as usize,
     };
-    match build_document_source::<SourceScalar, NodeBuilder<'b>, LimitFailure>(
-        alloc, &text, within, builder,
+    match build_document_source::<SourceScalar, Building<'_, 'b, O>, LimitFailure>(
+        alloc, &text, within, building,
     ) {
-        Ok(_) => Ok(()),
-        Err(failure) => Err(failure),
+        Ok(definitions) => Ok(definitions),
+        Err(failure) => Err(failure_of(table, failure)),
     }
 }
 
-// What is known of a source that has no tree within the limits.
-fn failed(table: &ByteTable, failure: LimitFailure) -> Result<Parsed, Unread>
-    ensures { (text : List ℕ) (limits : Bounds) → IsUtf8 text → length text < 2 ^ 32 → IsTableOf (chars text) table.now → FailsLimited scalars limits.depth limits.tokens (chars text) failure → (old_nodes new_nodes : List Written) (old_texts new_texts : List ℕ) → ReturnsParsed text limits old_nodes new_nodes old_texts new_texts result }
+fn failure_of(table: &ByteTable, failure: LimitFailure) -> Failure
+    ensures { (text : List ℕ) (limits : Bounds) → IsUtf8 text → length text < 2 ^ 32 → IsTableOf (chars text) table.now → FailsLimited scalars limits.depth limits.tokens (chars text) failure → IsFailure text limits result }
 {
     match failure {
         LimitFailure::Parse(ParseFailure::Refused(found)) => {
-            Ok(Parsed::Refused(written_fault(table, &found)))
+            Failure::Refused(written_fault(table, &found))
         }
-        LimitFailure::TooDeep(span) => Ok(Parsed::TooDeep(deep_fault(table, span))),
-        LimitFailure::TooMany(span) => Ok(Parsed::TooMany(many_fault(table, span))),
-        LimitFailure::Parse(ParseFailure::Memory) => Err(Unread::OutOfMemory),
+        LimitFailure::TooDeep(span) => Failure::TooDeep(deep_fault(table, span)),
+        LimitFailure::TooMany(span) => Failure::TooMany(many_fault(table, span)),
+        LimitFailure::Parse(ParseFailure::Memory) => Failure::OutOfMemory,
     }
 }

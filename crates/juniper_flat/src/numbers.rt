@@ -5,8 +5,8 @@ ghost use Rattle.graphql_nodes.specs.Nodes.{document_nodes};
 ghost use Rattle.juniper_complexity.specs.Faults.{OperationsHave};
 ghost use Rattle.juniper_outlines.specs.Definitions.{own_complexities};
 ghost use Rattle.juniper_values.specs.Scalar.{Content};
-ghost use Rattle.juniper_flat.specs.Both.{AreMarked};
 ghost use Rattle.juniper_flat.specs.Builders.{with_written};
+ghost use Rattle.juniper_flat.specs.Buildings.{AreMarked};
 ghost use Rattle.juniper_flat.specs.Weighed.{node_at, numbers_of, saturated};
 
 use crate::place::in_word;

@@ -64,11 +64,6 @@ module _ (text bytes : List ℕ) (k : ℕ) (u : IsUtf8 text) (same : bytes ≡ t
   abbrev cs : List ℕ
   cs = chars text
 
-  pub four_counted : 4 ≤ k → k ≡ counted cs
-  four_counted l =
-      let none : 4 - k ≡ 0 = omega (arith, l) in
-      omega (arith, h.left, ap (λ n. counted_to n (drop k cs)) none)
-
   pub all_counted : length bytes ≤ k → k ≡ counted cs
   all_counted l =
       let none : drop k cs ≡ [] = drop_all k cs (omega (arith, l, ap length same, chars_within text u)) in

@@ -13,7 +13,9 @@ use Rattle.juniper_tokens.specs.declared.stream.Placed.{Placed}
 use Rattle.juniper_tokens.specs.Cursor.{EndsOnce, first_of, kind_at}
 use Rattle.juniper_tokens.specs.Taking.{Taking, left, last_end}
 use Rattle.juniper_tokens.specs.device.Ranges.{range_lexeme, range_lexemes, IsRange, StandsOn}
-use Rattle.juniper_tokens.specs.device.Streams.{StreamState, GivesNext, begun, rest_of, streamed, with_next}
+use Rattle.juniper_tokens.specs.device.BytePlaces.{BytePlace}
+use Rattle.juniper_tokens.specs.device.Streams.{StreamState, Standing, GivesNext, begun, range_to, rest_of, standing}
+use Rattle.juniper_tokens.specs.device.Streams.{streamed, with_next}
 use Rattle.juniper_tokens.specs.declared.records.TokenRecords.{TokenRecords}
 use Rattle.juniper_tokens.specs.device.Feeds.{GoesOnStream, StandsAt, StandsBefore, StandsOnStream, seen, taking_of}
 use Rattle.juniper_tokens.specs.device.Feeds.{tokens_from}
@@ -24,9 +26,10 @@ use Rattle.juniper_tokens.proofs.Taking.{seen_ended, seen_first, first_is_range}
 -- ---- where a cursor stands that is seen as now
 
 module _ (source : List ℕ) (b : Bool) (records : TokenRecords) (s : StreamState) (taken : ℕ) (next : Placed)
-    (last : Place)
+    (last : BytePlace)
     (h : StandsAt source b records s taken next last) (now : Taking) (e : seen source b records s taken ≡ now) where
-  pub of_stream : b ≡ true → StandsOnStream source s taken next last × (taking_of (streamed source s.depth s.most)
+  pub of_stream : b ≡ true → StandsOnStream source s taken (standing s next) last.place × (taking_of (streamed source
+      s.depth s.most)
       taken ≡ now)
   of_stream t = (
     subst (λ (x : Bool). StandsAt source x records s taken next last) t h,
@@ -52,7 +55,7 @@ module _ (source : List ℕ) (b : Bool) (records : TokenRecords) (s : StreamStat
           seen_ended source records.ranges.now records.starts.now taken it.0.left now it.1
 
   -- the next token is this range
-  module _ (r : TokenRange) (streams : b ≡ true → r ≡ next.range)
+  module _ (r : TokenRange) (streams : b ≡ true → r ≡ range_to s next)
       (lists : b ≡ false → (d : TokenRange) → r ≡ get_or records.ranges.now taken d) where
     pub range_seen : IsRange source r
     range_seen = by_feed b refl
@@ -79,10 +82,10 @@ module _ (source : List ℕ) (b : Bool) (records : TokenRecords) (s : StreamStat
 
   -- where its tokens are a stream's
   module _ (t : b ≡ true) where
-    pub stream_first : range_lexeme source next.range ≡ first_of (left now)
+    pub stream_first : range_lexeme source (range_to s next) ≡ first_of (left now)
     stream_first = let it = of_stream t in sym it.0.stands.first_is ∙ ap (λ (y : Taking). first_of (left y)) it.1
 
-    pub stream_start : next.start ≡ (first_of (left now)).span.start
+    pub stream_start : next.start.place ≡ (first_of (left now)).span.start
     stream_start = (of_stream t).0.stands.start_is ∙ ap (λ (x : Lexeme). x.span.start) stream_first
 
     pub stream_end : place s.source s.index ≡ (first_of (left now)).span.end
@@ -90,24 +93,24 @@ module _ (source : List ℕ) (b : Bool) (records : TokenRecords) (s : StreamStat
         let g = (of_stream t).0.goes_on in
         ap₂ place g.source_is g.to ∙ ap (λ (x : Lexeme). x.span.end) stream_first
 
-    pub stream_last : 0 < now.taken → last ≡ last_end now
+    pub stream_last : 0 < now.taken → last.place ≡ last_end now
     stream_last some =
         let it = of_stream t in
         it.0.stands.last_is (subst (λ (y : Taking). 0 < y.taken) (sym it.1) some) ∙ ap last_end it.1
 
-    pub stream_more : same_kind (kind_at (left now)) EndOfFile ≡ false → is_end next.range.kind ≡ false
+    pub stream_more : same_kind (kind_at (left now)) EndOfFile ≡ false → is_end next.kind ≡ false
     stream_more more = ap (λ (x : Lexeme). is_end x.kind) stream_first ∙ more
 
 -- a cursor stands so again
 pub to_stream : (source : List ℕ) (b : Bool) (records : TokenRecords) (s : StreamState) (taken : ℕ) (next : Placed)
-    (last : Place)
-    → b ≡ true → StandsBefore source (taking_of (streamed source s.depth s.most) taken) next last
-    → GoesOnStream source s taken next.range → StandsAt source b records s taken next last
+    (last : BytePlace)
+    → b ≡ true → StandsBefore source (taking_of (streamed source s.depth s.most) taken) (standing s next) last.place
+    → GoesOnStream source s taken (range_to s next) → StandsAt source b records s taken next last
 to_stream source b records s taken next last t h g =
     subst (λ (x : Bool). StandsAt source x records s taken next last) (sym t) (record { stands = h; goes_on = g })
 
 pub to_records : (source : List ℕ) (b : Bool) (records : TokenRecords) (s : StreamState) (taken : ℕ) (next : Placed)
-    (last : Place)
+    (last : BytePlace)
     → b ≡ false → StandsOn source records.ranges.now records.starts.now taken records.lines
     → StandsAt source b records s taken next last
 to_records source b records s taken next last t h =
@@ -134,7 +137,7 @@ first_of_next source r s = by_end (is_end r.kind)
     by_end true = refl
     by_end false = refl
 
-module _ (source : List ℕ) (s t : StreamState) (taken : ℕ) (next : TokenRange) (p : Placed)
+module _ (source : List ℕ) (s t : StreamState) (taken : ℕ) (next : TokenRange) (p : Standing)
     (h : GoesOnStream source s taken next) (more : is_end next.kind ≡ false) (g : GivesNext s p t) where
   abbrev all : Tokens
   all = streamed source s.depth s.most
@@ -196,7 +199,7 @@ module _ (source : List ℕ) (s t : StreamState) (taken : ℕ) (next : TokenRang
 
 -- ---- a stream is begun
 
-module _ (source : List ℕ) (depth most : ℕ) (fits : most < 2 ^ 64) (p : Placed) (t : StreamState)
+module _ (source : List ℕ) (depth most : ℕ) (fits : most < 2 ^ 64) (p : Standing) (t : StreamState)
     (g : GivesNext (begun source depth most) p t) where
   same_tokens : ◌≡◌ {A = Tokens} (streamed source t.depth t.most) (streamed source depth most)
   same_tokens = ap₂ (streamed source) g.depth_is g.most_is
@@ -226,7 +229,7 @@ module _ (source : List ℕ) (depth most : ℕ) (fits : most < 2 ^ 64) (p : Plac
 
 -- ---- a stream has ended
 
-module _ (source : List ℕ) (s : StreamState) (taken : ℕ) (next : Placed) (last : Place)
+module _ (source : List ℕ) (s : StreamState) (taken : ℕ) (next : Standing) (last : Place)
     (h : StandsOnStream source s taken next last) (now : Taking) (e : taking_of (streamed source s.depth s.most)
     taken ≡ now) where
   pub whole_at_end : is_end next.range.kind ≡ true → now.whole ≡ not s.short

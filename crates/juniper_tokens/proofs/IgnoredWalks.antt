@@ -1,16 +1,15 @@
 -- A loop over white space and comments, which stands between two of them.
-use Rattle.std.proofs.Common.{◌≡◌, ℕ, suc, ◌+◌, ◌-◌, ◌≤◌, ◌<◌, ◌^◌, Bool, true, false, cond, ◌==◌, List, [], ◌∷◌, length, take, drop, drop-drop, get_or, get_or-drop, Option, Some, None, refl, sym, ap, subst, ◌∙◌, arith, length-drop, take-add, ◌++◌, rules}
+use Rattle.std.proofs.Common.{◌≡◌, ℕ, suc, ◌+◌, ◌-◌, ◌≤◌, ◌<◌, Bool, true, false, cond, ◌==◌, List, [], ◌∷◌, length, take, drop, drop-drop, get_or, get_or-drop, Option, Some, None, refl, sym, ap, subst, ◌∙◌, arith, length-drop, ◌++◌, rules}
 use Rattle.std.specs.List.{fold}
 use Rattle.std.specs.Str.{chars, IsUtf8}
 use Rattle.std.proofs.lemmas.Bool.{eqb-true, ltb-true, lt-ltb, le-leb}
 use Rattle.std.proofs.lemmas.List.{take_all, length-take-le}
-use Rattle.std.proofs.lemmas.List.Sums.{fold-append}
 use Rattle.std.proofs.lemmas.Str.{encode_ascii, length-le-encodes}
 use denote.Enum.Bare.{sameb, same_true}
 use lib.Utf8.{encode, encodes}
 use Rattle.graphql_lexical.specs.Characters.{is_comment_character}
 use Rattle.graphql_lexical.specs.device.Machines.{reach, onward}
-use Rattle.graphql_lexical.specs.Place.{Place, past_character, next_column, next_line}
+use Rattle.graphql_lexical.specs.Place.{place, past_character, next_column, next_line}
 use Rattle.graphql_lexical.specs.device.Scan.{ignored_step, ignored_size}
 use Rattle.juniper_tokens.specs.contracts.byte_classes.ByteClass.{the_type}
 use Rattle.juniper_tokens.specs.declared.byte_classes.ByteClass.{ByteClass}
@@ -19,13 +18,15 @@ use Rattle.juniper_tokens.specs.declared.lexer.run.Run.TheVariants as run
 use Rattle.juniper_tokens.specs.declared.lexer.text.Offset.{Offset}
 use Rattle.juniper_tokens.specs.ByteClasses.{class_of, ignored_class}
 use Rattle.juniper_tokens.specs.device.ByteRuns.{byte_at}
-use Rattle.juniper_tokens.specs.device.LexingByScan.{begins_with_mark}
+use Rattle.juniper_tokens.specs.device.BytePlaces.{BytePlace}
+use Rattle.juniper_tokens.specs.device.LexingByScan.{IsPlaced, begins_with_mark}
 use Rattle.juniper_tokens.specs.Positions.{columns_on}
-use Rattle.juniper_tokens.specs.device.Walks.{run_size, RunsTo, first_class, EndsIgnored}
-use Rattle.juniper_tokens.proofs.Offsets.{ascii_first, byte_at_on, byte_at_within, chars_within}
+use Rattle.juniper_tokens.specs.device.Walks.{run_size, RunsTo, first_class, never_ignored, PassesSpaces, IsInIgnored, EndsIgnored}
+use Rattle.juniper_tokens.proofs.LexingByScan.{placed_on}
+use Rattle.juniper_tokens.proofs.Offsets.{ascii_first}
 use Rattle.juniper_tokens.proofs.ByteClasses.{ignored_class_tests, low_class, low_class_tests, lead_class_tests, feed_class_tests, ignored_none}
-use Rattle.juniper_tokens.proofs.Places.{OnLine, line_fold, one_column_more}
-use Rattle.juniper_tokens.proofs.Runs.{run_of, run_within, run_more, run_none, spaces_on_line, comment_on_line, rest_bytes, FirstByte, low, high, first_byte, first_low, index_on}
+use Rattle.juniper_tokens.proofs.Places.{OnLine, line_fold, place_on}
+use Rattle.juniper_tokens.proofs.Runs.{run_of, run_within, run_more, run_none, spaces_on_line, comment_on_line, rest_bytes, FirstByte, low, high, first_byte, first_low}
 
 -- ---- how far ignored tokens go
 
@@ -124,125 +125,126 @@ three_bytes : (cs : List ℕ) → byte_at 1 (65279 ∷ cs) ≡ 3
 unfolding encode
 three_bytes cs = refl
 
+-- all bytes after some
+pub all_dropped : (bytes : List ℕ) (i : ℕ) → take (length bytes - i) (drop i bytes) ≡ drop i bytes
+all_dropped bytes i = take_all (length bytes - i) (drop i bytes) (omega (arith, length-drop i bytes))
+
 -- ---- the loop
 
--- The loop is after so many characters of the ignored tokens.
-pub record InIgnored (cs : List ℕ) (start : Place) (i : ℕ) (p : Place) : Type 0 where
-  pub size : ℕ
-  pub within : size ≤ length cs
-  pub bytes : i ≡ byte_at size cs
-  pub place : p ≡ fold past_character start (take size cs)
-  pub ignored : ignored_size cs ≡ size + ignored_size (drop size cs)
-
 -- further by some characters
-ignored_on : (cs : List ℕ) (start p q : Place) (i j n : ℕ) → (g : InIgnored cs start i p) → n ≤ length (drop g.size cs)
-    → j ≡ i + byte_at n (drop g.size cs)
-    → q ≡ fold past_character p (take n (drop g.size cs))
-    → ignored_size (drop g.size cs) ≡ n + ignored_size (drop n (drop g.size cs)) → InIgnored cs start j q
-ignored_on cs start p q i j n g l e f h = record {
-  size = g.size + n;
-  within = omega (arith, l, g.within, length-drop g.size cs);
-  bytes = e ∙ (ap (λ k. k + byte_at n (drop g.size cs)) g.bytes ∙ byte_at_on g.size n cs);
-  place =
-      f ∙ (ap (λ x. fold past_character x (take n (drop g.size cs))) g.place
-      ∙ (sym (fold-append past_character start (take g.size cs) (take n (drop g.size cs)))
-      ∙ ap (fold past_character start) (sym (take-add g.size n cs))));
-  ignored =
-      g.ignored ∙ (ap (λ k. g.size + k) (h ∙ ap (λ t. n + ignored_size t) (drop-drop n g.size cs))
-      ∙ plus_plus g.size n (ignored_size (drop (g.size + n) cs)));
-}
+ignored_on : (source : List ℕ) (start : ℕ) (p q : BytePlace) (n : ℕ) → (g : IsInIgnored source start p)
+    → n ≤ length (drop p.place.index (chars source))
+    → q.byte ≡ p.byte + byte_at n (drop p.place.index (chars source))
+    → q.place ≡ fold past_character p.place (take n (drop p.place.index (chars source)))
+    → ignored_size (drop p.place.index (chars source))
+    ≡ n + ignored_size (drop n (drop p.place.index (chars source))) → IsInIgnored source start q
+ignored_on source start p q n g l e f h =
+    let cs = chars source in
+    let k = p.place.index in
+    let there : q.place ≡ place cs (k + n) =
+    f ∙ (ap (λ x. fold past_character x (take n (drop k cs))) g.placed.place_is ∙ place_on cs k n) in
+    let on = placed_on source p.byte n (byte_at n (drop k cs)) p.place q.place g.placed l refl there in
+    record {
+      placed = subst (λ b. IsPlaced source b q.place) (sym e) on.1;
+      ignored =
+          g.ignored ∙ (ap (λ m. k + m) (h ∙ ap (λ t. n + ignored_size t) (drop-drop n k cs))
+          ∙ (plus_plus k n (ignored_size (drop (k + n) cs)) ∙ ap (λ m. m + ignored_size (drop m cs)) (sym on.0)));
+    }
   where
     plus_plus : (a b c : ℕ) → a + (b + c) ≡ (a + b) + c
     plus_plus a b c = omega arith
 
 -- The ignored tokens end there.
-ignored_ended : (cs : List ℕ) (start p : Place) (i : ℕ) (class : ByteClass) → (g : InIgnored cs start i p)
-    → ignored_size (drop g.size cs) ≡ 0 → class ≡ first_class (drop g.size cs) → EndsIgnored cs start i p class
-ignored_ended cs start p i class g e h =
-    let size : g.size ≡ ignored_size cs = omega (arith, g.ignored, e) in
-    record {
-      bytes_is = g.bytes ∙ ap (λ k. byte_at k cs) size;
-      position_is = g.place ∙ ap (λ k. fold past_character start (take k cs)) size;
-      class_is = h ∙ ap (λ k. first_class (drop k cs)) size;
-    }
+ignored_ended : (source : List ℕ) (start : ℕ) (p : BytePlace) (class : ByteClass) → (g : IsInIgnored source start p)
+    → ignored_size (drop p.place.index (chars source)) ≡ 0 → class ≡ first_class (drop p.place.index (chars source))
+    → EndsIgnored source start p class
+ignored_ended source start p class g e h = record {
+  placed = g.placed;
+  index_is = omega (arith, g.ignored, e);
+  class_is = h;
+}
 
-module _ (text bytes : List ℕ) (start p : Place) (i : ℕ) (u : IsUtf8 text) (same : bytes ≡ text)
-    (g : InIgnored (chars text) start i p) where
+module _ (source bytes : List ℕ) (start : ℕ) (p : BytePlace) (u : IsUtf8 source) (same : bytes ≡ source)
+    (g : IsInIgnored source start p) where
   abbrev pub cs : List ℕ
-  cs = chars text
+  cs = chars source
 
-  -- its bytes and its index fit
-  pub ignored_fit : start.index + length text < 2 ^ 64
-      → (i ≤ length text) × (p.index ≡ start.index + g.size) × (p.index < 2 ^ 64)
-  ignored_fit r =
-      let index : p.index ≡ start.index + g.size = ap (λ (x : Place). x.index) g.place
-      ∙ (index_on start (take g.size cs) ∙ ap (λ k. start.index + k) (length-take-le g.size cs g.within)) in
-      (byte_at_within g.size i text u g.bytes, index, omega (arith, index, r, g.within, chars_within text u))
+  abbrev k : ℕ
+  k = p.place.index
 
-  rest : drop i bytes ≡ encodes (drop g.size cs)
-  rest = ap (drop i) same ∙ rest_bytes text i g.size u g.bytes
+  rest : drop p.byte bytes ≡ encodes (drop k cs)
+  rest = ap (drop p.byte) same ∙ rest_bytes source p.byte k u g.placed.byte_is
 
-  pub all_read : length bytes ≤ i → EndsIgnored cs start i p Control
-  all_read l =
-      let none : length (encodes (drop g.size cs)) ≡ length (drop i bytes) = ap length (sym rest) in
-      let few : length (drop g.size cs) ≤ 0 = omega (
-        arith,
-        l,
-        none,
-        length-drop i bytes,
-        length-le-encodes (drop g.size cs),
-      ) in
-      ignored_ended cs start p i Control g (none_left (drop g.size cs) few) (none_there (drop g.size cs) few)
+  none_there_is : length bytes ≤ p.byte → length (drop k cs) ≤ 0
+  none_there_is l =
+      let none : length (encodes (drop k cs)) ≡ length (drop p.byte bytes) = ap length (sym rest) in
+      omega (arith, l, none, length-drop p.byte bytes, length-le-encodes (drop k cs))
 
-  -- the number of characters before it, by its index
-  pub size_is : start.index + length text < 2 ^ 64 → p.index - start.index ≡ g.size
-  size_is r = omega (arith, (ignored_fit r).1)
+  pub none_at_end : length bytes ≤ p.byte → ignored_size (drop k cs) ≡ 0
+  none_at_end l = none_left (drop k cs) (none_there_is l)
 
-  module _ (l : i < length bytes) (small : get_or bytes i 0 < 256) where
+  pub class_at_end : length bytes ≤ p.byte → Control ≡ first_class (drop k cs)
+  class_at_end l = none_there (drop k cs) (none_there_is l)
+
+  pub all_read : length bytes ≤ p.byte → EndsIgnored source start p Control
+  all_read l = ignored_ended source start p Control g (none_at_end l) (class_at_end l)
+
+  module _ (l : p.byte < length bytes) (small : get_or bytes p.byte 0 < 256) where
     abbrev pub b : ℕ
-    b = get_or bytes i 0
+    b = get_or bytes p.byte 0
 
     abbrev ds : List ℕ
-    ds = drop 1 (drop g.size cs)
+    ds = drop 1 (drop k cs)
 
-    first_there : get_or (drop i bytes) 0 0 ≡ b
-    first_there = get_or-drop i bytes 0 0 ∙ ap (λ k. get_or bytes k 0) (plus_none i)
+    first_there : get_or (drop p.byte bytes) 0 0 ≡ b
+    first_there = get_or-drop p.byte bytes 0 0 ∙ ap (λ j. get_or bytes j 0) (plus_none p.byte)
       where
-        plus_none : (k : ℕ) → k + 0 ≡ k
-        plus_none k = omega arith
+        plus_none : (j : ℕ) → j + 0 ≡ j
+        plus_none j = omega arith
 
-    first : FirstByte (drop g.size cs) b
+    first : FirstByte (drop k cs) b
     first =
-        subst (FirstByte (drop g.size cs)) first_there
-        (first_byte (drop g.size cs) (drop i bytes) rest (omega (arith, l, length-drop i bytes)))
+        subst (FirstByte (drop k cs)) first_there
+        (first_byte (drop k cs) (drop p.byte bytes) rest (omega (arith, l, length-drop p.byte bytes)))
 
-    class_there : class_of b ≡ first_class (drop g.size cs)
+    class_there : class_of b ≡ first_class (drop k cs)
     class_there = ap class_of (sym first_there ∙ ap (λ t. get_or t 0 0) rest)
+
+    pub class_here : (class : ByteClass) → class ≡ class_of b → class ≡ first_class (drop k cs)
+    class_here class e = e ∙ class_there
 
     pub other_ends : (class : ByteClass) → class ≡ class_of b
         → (class ≡ White → ⊥) → (class ≡ LineFeed → ⊥) → (class ≡ Hash → ⊥) → (class ≡ Lead → ⊥)
-        → EndsIgnored cs start i p class
+        → EndsIgnored source start p class
     other_ends class e w f h n =
-        ignored_ended cs start p i class g (other_stops (drop g.size cs) b first small class e w f h n)
+        ignored_ended source start p class g (other_stops (drop k cs) b first small class e w f h n)
         (e ∙ class_there)
 
-    pub lead_ends : (class : ByteClass) → class ≡ class_of b → class ≡ Lead → (k : ℕ) → k ≡ g.size
-        → begins_with_mark (drop k cs) ≡ false → EndsIgnored cs start i p class
-    lead_ends class e lead k k_is n =
-        ignored_ended cs start p i class g (lead_stops (drop g.size cs) b first small (sym lead ∙ e)
-        (ap (λ j. begins_with_mark (drop j cs)) (sym k_is) ∙ n)) (e ∙ class_there)
-
-    pub mark_on : (q : Place) (k : ℕ) → k ≡ g.size → begins_with_mark (drop k cs) ≡ true → q ≡ next_column p
-        → InIgnored cs start (i + 3) q
-    mark_on q k k_is m f = by_rest (drop g.size cs) refl (ap (λ j. begins_with_mark (drop j cs)) (sym k_is) ∙ m)
+    pub never_ends : (class : ByteClass) → class ≡ class_of b → never_ignored class ≡ true
+        → ignored_size (drop k cs) ≡ 0
+    never_ends class e h =
+        other_stops (drop k cs) b first small class e (no_class White refl) (no_class LineFeed refl)
+        (no_class Hash refl) (no_class Lead refl)
       where
-        by_rest : (es : List ℕ) → drop g.size cs ≡ es → begins_with_mark es ≡ true → InIgnored cs start (i + 3) q
+        no_class : (c : ByteClass) → never_ignored c ≡ false → class ≡ c → ⊥
+        no_class c f w = let z : true ≡ false = sym h ∙ (ap never_ignored w ∙ f) in absurd (cc z)
+
+    pub lead_ends : (class : ByteClass) → class ≡ class_of b → class ≡ Lead
+        → begins_with_mark (drop k cs) ≡ false → EndsIgnored source start p class
+    lead_ends class e lead n =
+        ignored_ended source start p class g (lead_stops (drop k cs) b first small (sym lead ∙ e) n) (e ∙ class_there)
+
+    pub mark_on : (q : BytePlace) → begins_with_mark (drop k cs) ≡ true
+        → q ≡ record { byte = p.byte + 3; place = columns_on 1 p.place } → IsInIgnored source start q
+    mark_on q m f = by_rest (drop k cs) refl m
+      where
+        by_rest : (es : List ℕ) → drop k cs ≡ es → begins_with_mark es ≡ true → IsInIgnored source start q
         by_rest [] e w = absurd (cc w)
         by_rest (c ∷ es) e w =
-            let mark : drop g.size cs ≡ 65279 ∷ es = e ∙ ap (λ (x : ℕ). x ∷ es) (eqb-true c 65279 w) in
-            ignored_on cs start p q i (i + 3) 1 g (omega (arith, ap length mark))
-            (ap (λ k. i + k) (sym (ap (byte_at 1) mark ∙ three_bytes es)))
-            (f ∙ sym (ap (λ t. fold past_character p (take 1 t)) mark))
+            let mark : drop k cs ≡ 65279 ∷ es = e ∙ ap (λ (x : ℕ). x ∷ es) (eqb-true c 65279 w) in
+            ignored_on source start p q 1 g (omega (arith, ap length mark))
+            (ap (λ (x : BytePlace). x.byte) f ∙ ap (λ j. p.byte + j) (sym (ap (byte_at 1) mark ∙ three_bytes es)))
+            (ap (λ (x : BytePlace). x.place) f ∙ sym (ap (λ t. fold past_character p.place (take 1 t)) mark))
             (ap ignored_size mark ∙ (suc_one (ignored_size es) ∙ ap (λ t. 1 + ignored_size t) (sym (ap (drop 1) mark))))
 
     -- a character of ASCII, and a run after it
@@ -250,69 +252,75 @@ module _ (text bytes : List ℕ) (start p : Place) (i : ℕ) (u : IsUtf8 text) (
       below : b < 128
       below = ltb-true b 128 (sym (low_class_tests b small) ∙ (ap low_class (sym class_is) ∙ is_low))
 
-      here : drop g.size cs ≡ b ∷ ds
-      here = first_low (drop g.size cs) b first below
+      here : drop k cs ≡ b ∷ ds
+      here = first_low (drop k cs) b first below
 
       step_is : ignored_step false b ≡ ignored_class class
       step_is = sym (ignored_class_tests b small) ∙ ap ignored_class (sym class_is)
 
-      over : (n m : ℕ) (q : Place) → n ≤ length ds → m ≡ byte_at n ds
-          → q ≡ fold past_character (past_character p b) (take n ds)
-          → ignored_size (b ∷ ds) ≡ suc (n + ignored_size (drop n ds)) → InIgnored cs start (i + (1 + m)) q
-      over n m q w e f h =
-          ignored_on cs start p q i (i + (1 + m)) (suc n) g (omega (arith, ap length here, w))
-          (omega (arith, e, ap (byte_at (suc n)) here ∙ ascii_first b n ds below))
-          (f ∙ sym (ap (λ t. fold past_character p (take (suc n) t)) here))
+      over : (n m : ℕ) (q : BytePlace) → n ≤ length ds → m ≡ byte_at n ds → q.byte ≡ (p.byte + 1) + m
+          → q.place ≡ fold past_character (past_character p.place b) (take n ds)
+          → ignored_size (b ∷ ds) ≡ suc (n + ignored_size (drop n ds)) → IsInIgnored source start q
+      over n m q w e j f h =
+          ignored_on source start p q (suc n) g (omega (arith, ap length here, w))
+          (omega (arith, e, j, ap (byte_at (suc n)) here ∙ ascii_first b n ds below))
+          (f ∙ sym (ap (λ t. fold past_character p.place (take (suc n) t)) here))
           (ap ignored_size here ∙ (h ∙ (one_more n (ignored_size (drop n ds))
           ∙ ap (λ t. suc n + ignored_size t) (sym (ap (drop (suc n)) here)))))
 
       -- the bytes after it
-      bytes_after : (tail : List ℕ) → tail ≡ take (length bytes - (i + 1)) (drop (i + 1) bytes) → tail ≡ encodes ds
-      bytes_after tail e =
-          e ∙ (take_all (length bytes - (i + 1)) (drop (i + 1) bytes) (omega (arith, length-drop (i + 1) bytes))
-          ∙ (sym (drop-drop 1 i bytes) ∙ (ap (drop 1) (rest ∙ ap encodes here)
-          ∙ ap (λ t. drop 1 (t ++ encodes ds)) (encode_ascii b below))))
+      bytes_after : drop (p.byte + 1) bytes ≡ encodes ds
+      bytes_after =
+          sym (drop-drop 1 p.byte bytes) ∙ (ap (drop 1) (rest ∙ ap encodes here)
+          ∙ ap (λ t. drop 1 (t ++ encodes ds)) (encode_ascii b below))
 
-    pub white_on : (q : Place) → White ≡ class_of b → q ≡ next_column p → InIgnored cs start (i + 1) q
+    pub white_on : (q : BytePlace) → White ≡ class_of b
+        → q ≡ record { byte = p.byte + 1; place = next_column p.place } → IsInIgnored source start q
     white_on q c f =
-        over White c refl 0 0 q (omega arith) refl
-        (f ∙ ap (λ x. cond x (next_line p) (next_column p))
-        (ap (λ k. sameb the_type k LineFeed) c ∙ feed_class_tests b small))
+        over White c refl 0 0 q (omega arith) refl (ap (λ (x : BytePlace). x.byte) f ∙ plus_none (p.byte + 1))
+        (ap (λ (x : BytePlace). x.place) f ∙ ap (λ x. cond x (next_line p.place) (next_column p.place))
+        (ap (λ j. sameb the_type j LineFeed) c ∙ feed_class_tests b small))
         (one_white b ds (step_is White c refl) ∙ ap suc (none_more (ignored_size ds)))
+      where
+        plus_none : (j : ℕ) → j ≡ j + 0
+        plus_none j = omega arith
 
-    pub feed_on : (q : Place) (r : Offset) (tail : List ℕ) → LineFeed ≡ class_of b
-        → tail ≡ take (length bytes - (i + 1)) (drop (i + 1) bytes) → RunsTo run.Spaces tail r
-        → q ≡ columns_on r.characters (next_line p) → InIgnored cs start (i + (1 + r.bytes)) q
-    feed_on q r tail c e h f =
-        let spaces = run_of run.Spaces ds tail r (bytes_after LineFeed c refl tail e) h in
+    pub feed_on : (q : BytePlace) → LineFeed ≡ class_of b → PassesSpaces (drop (p.byte + 1) bytes) p q
+        → IsInIgnored source start q
+    feed_on q c passes =
+        let r = passes.0 in
+        let spaces = run_of run.Spaces ds (drop (p.byte + 1) bytes) r (bytes_after LineFeed c refl) passes.1 in
         let n = r.characters in
         let within : n ≤ length ds = omega (arith, spaces.characters, run_within run.Spaces ds) in
-        let feed : past_character p b ≡ next_line p = ap (λ x. cond x (next_line p) (next_column p))
-        (sym (ap (λ k. sameb the_type k LineFeed) c ∙ feed_class_tests b small)) in
-        let line : OnLine (take n ds) = subst (λ k. OnLine (take k ds)) (sym spaces.characters) (spaces_on_line ds) in
-        over LineFeed c refl n r.bytes q within spaces.offset
-        (f ∙ (ap (λ k. columns_on k (next_line p)) (sym (length-take-le n ds within))
-        ∙ (sym (line_fold (next_line p) (take n ds) line)
+        let feed : past_character p.place b ≡ next_line p.place = ap (λ x. cond x (next_line p.place) (next_column
+        p.place))
+        (sym (ap (λ j. sameb the_type j LineFeed) c ∙ feed_class_tests b small)) in
+        let line : OnLine (take n ds) = subst (λ j. OnLine (take j ds)) (sym spaces.characters) (spaces_on_line ds) in
+        over LineFeed c refl n r.bytes q within spaces.offset (ap (λ (x : BytePlace). x.byte) passes.2)
+        (ap (λ (x : BytePlace). x.place) passes.2
+        ∙ (ap (λ j. columns_on j (next_line p.place)) (sym (length-take-le n ds within))
+        ∙ (sym (line_fold (next_line p.place) (take n ds) line)
         ∙ ap (λ x. fold past_character x (take n ds)) (sym feed))))
         (one_white b ds (step_is LineFeed c refl)
-        ∙ ap suc (subst (λ k. ignored_size ds ≡ k + ignored_size (drop k ds)) (sym spaces.characters)
+        ∙ ap suc (subst (λ j. ignored_size ds ≡ j + ignored_size (drop j ds)) (sym spaces.characters)
         (spaces_ignored ds)))
 
-    pub comment_on : (q : Place) (r : Offset) (tail : List ℕ) → Hash ≡ class_of b
-        → tail ≡ take (length bytes - (i + 1)) (drop (i + 1) bytes) → RunsTo run.Comment tail r
-        → q ≡ columns_on (1 + r.characters) p → InIgnored cs start (i + (1 + r.bytes)) q
-    comment_on q r tail c e h f =
-        let comment = run_of run.Comment ds tail r (bytes_after Hash c refl tail e) h in
+    pub comment_on : (q : BytePlace) (r : Offset) → Hash ≡ class_of b → RunsTo run.Comment (drop (p.byte + 1) bytes) r
+        → q ≡ record { byte = (p.byte + 1) + r.bytes; place = columns_on r.characters (next_column p.place) }
+        → IsInIgnored source start q
+    comment_on q r c runs f =
+        let comment = run_of run.Comment ds (drop (p.byte + 1) bytes) r (bytes_after Hash c refl) runs in
         let n = r.characters in
         let within : n ≤ length ds = omega (arith, comment.characters, run_within run.Comment ds) in
-        let column : past_character p b ≡ next_column p = ap (λ x. cond x (next_line p) (next_column p))
-        (sym (ap (λ k. sameb the_type k LineFeed) c ∙ feed_class_tests b small)) in
-        let line : OnLine (take n ds) = subst (λ k. OnLine (take k ds)) (sym comment.characters) (comment_on_line ds) in
-        over Hash c refl n r.bytes q within comment.offset
-        (f ∙ (ap (λ k. columns_on k p) (sym (suc_one n))
-        ∙ (sym (one_column_more n p) ∙ (ap (λ k. columns_on k (next_column p)) (sym (length-take-le n ds within))
-        ∙ (sym (line_fold (next_column p) (take n ds) line)
-        ∙ ap (λ x. fold past_character x (take n ds)) (sym column))))))
+        let column : past_character p.place b ≡ next_column p.place =
+        ap (λ x. cond x (next_line p.place) (next_column p.place))
+        (sym (ap (λ j. sameb the_type j LineFeed) c ∙ feed_class_tests b small)) in
+        let line : OnLine (take n ds) = subst (λ j. OnLine (take j ds)) (sym comment.characters) (comment_on_line ds) in
+        over Hash c refl n r.bytes q within comment.offset (ap (λ (x : BytePlace). x.byte) f)
+        (ap (λ (x : BytePlace). x.place) f
+        ∙ (ap (λ j. columns_on j (next_column p.place)) (sym (length-take-le n ds within))
+        ∙ (sym (line_fold (next_column p.place) (take n ds) line)
+        ∙ ap (λ x. fold past_character x (take n ds)) (sym column))))
         (one_comment b ds (step_is Hash c refl)
-        ∙ ap suc (subst (λ k. (reach ignored_step true ds).0 ≡ k + ignored_size (drop k ds)) (sym comment.characters)
+        ∙ ap suc (subst (λ j. (reach ignored_step true ds).0 ≡ j + ignored_size (drop j ds)) (sym comment.characters)
         (comment_ignored ds)))

@@ -1,5 +1,5 @@
 -- From the computed scan to the definitions, and from place to place of a source.
-use Rattle.std.proofs.Common.{◌≡◌, ℕ, ◌+◌, ◌≤◌, ◌<◌, ◌^◌, true, false, List, length, take, drop, refl, sym, ap, ap₂, subst, ◌∙◌, arith, rules, drop-drop, length-drop}
+use Rattle.std.proofs.Common.{◌≡◌, ℕ, ◌+◌, ◌≤◌, ◌<◌, ◌^◌, true, List, length, take, drop, refl, sym, ap, ap₂, subst, ◌∙◌, arith, rules, length-drop}
 use Rattle.std.specs.Prelude.{Result, Ok, Err, ◌↔◌}
 use Rattle.std.specs.List.{fold}
 use Rattle.std.specs.Str.{chars, IsUtf8}
@@ -12,20 +12,19 @@ use Rattle.graphql_lexical.specs.declared.kind.Kind.TheVariants.{EndOfFile}
 use Rattle.graphql_lexical.specs.Kinds.{same_kind, LexicalError, UnknownEscapeSequence}
 use Rattle.graphql_lexical.specs.Kinds as errors
 use Rattle.graphql_lexical.specs.Place.{Place, place, past_character}
-use Rattle.graphql_lexical.specs.device.Scan.{Found, Missed, scan, ignored_size, ignored_step}
-use Rattle.graphql_lexical.proofs.Public.{there_to_text, misses_what_fails, ignored_is_longest, reach_is, place_index}
+use Rattle.graphql_lexical.specs.device.Scan.{Found, Missed, scan, ignored_size}
+use Rattle.graphql_lexical.proofs.Public.{there_to_text, misses_what_fails, ignored_is_longest, place_index}
 use Rattle.juniper_tokens.specs.declared.span.Spanning.{Spanning}
 use Rattle.juniper_tokens.specs.declared.error.LexerError.{LexerError}
 use Rattle.juniper_tokens.specs.Errors.{view_lexer_error}
+use Rattle.juniper_tokens.specs.device.BytePlaces.{BytePlace, byte_place}
 use Rattle.juniper_tokens.specs.device.ByteRuns.{byte_at}
-use Rattle.juniper_tokens.specs.declared.byte_classes.ByteClass.{ByteClass}
-use Rattle.juniper_tokens.specs.device.Walks.{first_class, EndsIgnored}
 use Rattle.juniper_tokens.specs.device.Scans.{IsEscape}
 use Rattle.juniper_tokens.specs.device.Scans as scans
 use Rattle.juniper_tokens.specs.Lexing.{LexerState, MeetsError, GivesFault, WantsMemory}
 use Rattle.juniper_tokens.specs.device.LexingByScan.{IsPlaced, past_ignored}
 use Rattle.juniper_tokens.specs.device.Ranges.{FailsThere}
-use Rattle.juniper_tokens.proofs.Offsets.{byte_at_within, byte_at_on}
+use Rattle.juniper_tokens.proofs.Offsets.{byte_at_on}
 use Rattle.juniper_tokens.proofs.Places.{place_on}
 
 -- from one place to the next
@@ -46,6 +45,23 @@ placed_on source at g n p q h l e s =
       },
     )
 
+-- a place of a source
+pub placed_at : (source : List ℕ) (k : ℕ) → k ≤ length (chars source) → length source < 2 ^ 64
+    → IsPlaced source (byte_at k (chars source)) (place (chars source) k)
+placed_at source k within fits =
+    let index : (place (chars source) k).index ≡ k = place_index (chars source) k within in
+    record {
+      byte_is = ap (λ i. byte_at i (chars source)) (sym index);
+      place_is = ap (place (chars source)) (sym index);
+      within = omega (arith, index, within);
+      fits = fits;
+    }
+
+-- and each one with its byte is so
+pub byte_place_is : (source : List ℕ) (p : BytePlace) → IsPlaced source p.byte p.place
+    → p ≡ byte_place (chars source) p.place.index
+byte_place_is source p h = ap₂ (λ (b : ℕ) (q : Place). record { byte = b; place = q }) h.byte_is h.place_is
+
 pub chars_fit : (at n : ℕ) (p : Place) (source rest : List ℕ) → IsPlaced source at p → at + length rest ≡ length source
     → IsUtf8 rest → chars rest ≡ drop p.index (chars source) → p.index + length rest < 2 ^ 64
 chars_fit at n p source rest h e u c =
@@ -57,31 +73,6 @@ chars_fit at n p source rest h e u c =
       length-le-encodes (take p.index (chars source)),
       length-take-le p.index (chars source) h.within,
     )
-
-pub ignored_placed : (source rest : List ℕ) (at n : ℕ) (p q : Place) (class : ByteClass) → IsPlaced source at p
-    → chars rest ≡ drop p.index (chars source)
-    → EndsIgnored (chars rest) p n q class → (q.index ≡ p.index + ignored_size (drop p.index (chars source)))
-    × IsPlaced source (at + n) q
-ignored_placed source rest at n p q class h c e =
-    let d = drop p.index (chars source) in
-    placed_on source at (ignored_size d) n p q h (reach_is ignored_step false d).within
-    (e.bytes_is ∙ ap (λ t. byte_at (ignored_size t) t) c)
-    (e.position_is ∙ (ap₂ (λ s t. fold past_character s (take (ignored_size t) t)) h.place_is c
-    ∙ place_on (chars source) p.index (ignored_size d)))
-
--- the class of what stands after the ignored tokens
-pub ignored_class_there : (source rest : List ℕ) (at n : ℕ) (p q : Place) (class : ByteClass) → IsPlaced source at p
-    → chars rest ≡ drop p.index (chars source)
-    → EndsIgnored (chars rest) p n q class → class ≡ first_class (drop q.index (chars source))
-ignored_class_there source rest at n p q class h c e =
-    let d = drop p.index (chars source) in
-    e.class_is ∙ (ap (λ t. first_class (drop (ignored_size t) t)) c
-    ∙ (ap first_class (drop-drop (ignored_size d) p.index (chars source))
-    ∙ ap (λ k. first_class (drop k (chars source))) (sym (ignored_placed source rest at n p q class h c e).0)))
-
-pub sum_fits : (source rest : List ℕ) (at n k : ℕ) → at + length rest ≡ length source → length source < 2 ^ 64
-    → IsUtf8 rest → n ≡ byte_at k (chars rest) → at + n < 2 ^ 64
-sum_fits source rest at n k e r u b = omega (arith, e, r, byte_at_within k n rest u b)
 
 pub fault_placed : (source rest : List ℕ) (at k : ℕ) (p : Place) → IsPlaced source at p
     → chars rest ≡ drop p.index (chars source)

@@ -141,20 +141,6 @@ line_found starts k low high line h one is number =
 
 -- ---- on a line that is known
 
-pub on_this_line : (starts : List ℕ) (k : ℕ) (line : Line) → IsLine starts line → line.start ≤ k → k < line.end
-    → IsOnLine starts k line.number line.start
-on_this_line starts k line is from l = record {
-  begins = is.begins;
-  before = from;
-  after = λ next e. omega (arith, l, is.ends next e);
-}
-
--- the next line begins where this one ends
-pub next_begins : (starts : List ℕ) (line next : Line) → IsLine starts line → IsLine starts next
-    → next.number ≡ line.number + 1 → next.start ≡ line.end
-next_begins starts line next is more number =
-    sym (is.ends next.start (ap (slice_get starts) (sym number) ∙ more.begins))
-
 -- ---- the lines after each character
 
 pub no_longer : (t : Lines) → longer 0 t ≡ t

@@ -1,11 +1,10 @@
 -- Where a character begins in a text.
-use Rattle.std.proofs.Common.{◌≡◌, ℕ, zero, suc, ◌+◌, ◌-◌, ◌^◌, ◌≤◌, ◌<◌, Bool, true, false, ◌&&◌, append-nil, get_or, drop-cons, List, [], ◌∷◌, ◌++◌, length, take, drop, refl, sym, ap, ap₂, subst, ◌∙◌, MatchBool, None, ◌==◌, arith, length-append, take-append-drop, take-add}
-use Rattle.std.specs.Char.{len_utf8}
+use Rattle.std.proofs.Common.{◌≡◌, ℕ, zero, suc, ◌+◌, ◌-◌, ◌^◌, ◌≤◌, ◌<◌, Bool, true, false, ◌&&◌, List, [], ◌∷◌, ◌++◌, length, take, drop, refl, sym, ap, subst, ◌∙◌, MatchBool, None, ◌==◌, arith, length-append, take-append-drop, take-add}
 use Rattle.std.specs.Str.{chars, IsUtf8, IsCharBoundary}
 use Rattle.std.specs.Str.Pattern.{HasPrefixMatch, FindsTextPrefix}
 use Rattle.std.specs.Cmp.{second_so}
 use Rattle.std.proofs.lemmas.Bool.{eqb-true}
-use Rattle.std.proofs.lemmas.Str.{encode_ascii, encodes-chars, encodes-append, chars-encodes, scalars-chars, chars-append, length-le-encodes, length-encode, IsCharBoundary-at_seam}
+use Rattle.std.proofs.lemmas.Str.{encode_ascii, encodes-chars, encodes-append, chars-encodes, scalars-chars, chars-append, length-le-encodes, IsCharBoundary-at_seam}
 use Rattle.std.proofs.Math.Seq.{take-append_seam, drop-append_seam}
 use lib.Utf8.{scalar, scalars, encode, encodes}
 use Rattle.std.proofs.lemmas.List.{length-take-le}
@@ -31,6 +30,10 @@ scalars_take (suc k) (c ∷ cs) e = and_both (scalar c) (scalars cs) (scalars (t
 pub seam : (k : ℕ) (t : List ℕ) → IsUtf8 t → t ≡ encodes (take k (chars t)) ++ encodes (drop k (chars t))
 seam k t u = sym (encodes-chars t u) ∙ (ap encodes (sym (take-append-drop k (chars t)))
     ∙ encodes-append (take k (chars t)) (drop k (chars t)))
+
+-- no fewer bytes than characters
+pub byte_at_least : (k : ℕ) (cs : List ℕ) → k ≤ length cs → k ≤ byte_at k cs
+byte_at_least k cs l = omega (arith, length-take-le k cs l, length-le-encodes (take k cs))
 
 pub byte_at_within : (k n : ℕ) (t : List ℕ) → IsUtf8 t → n ≡ byte_at k (chars t) → n ≤ length t
 byte_at_within k n t u e = omega (
@@ -58,9 +61,6 @@ chars_drop k n t u e =
     ap chars (ap (λ m. drop m t) e ∙ (ap (drop (length a)) (seam k t u)
     ∙ drop-append_seam a (encodes (drop k (chars t)))))
     ∙ chars-encodes (drop k (chars t)) (scalars_drop k (chars t) (scalars-chars t u))
-
-pub first_offset : (n c : ℕ) (cs ds : List ℕ) → n ≡ length (encode c) → cs ≡ c ∷ ds → n ≡ byte_at 1 cs
-first_offset n c cs ds e h = e ∙ (sym (ap length (append-nil (encode c))) ∙ ap (byte_at 1) (sym h))
 
 pub take_first : (c : ℕ) (cs ds : List ℕ) → cs ≡ c ∷ ds → take 1 cs ≡ c ∷ []
 take_first c cs ds h = ap (take 1) h
@@ -92,26 +92,6 @@ pub fits_from : (text rest : List ℕ) (k n : ℕ) → n ≡ byte_at k (chars te
 fits_from text rest k n e w l fits =
     let before : length (take k (chars text)) ≡ k = length-take-le k (chars text) w in
     omega (arith, e, l, fits, length-le-encodes (take k (chars text)), before)
-
--- the border after one more character
-pub offset_on : (text : List ℕ) (i b c n : ℕ) → IsUtf8 text → i < length (chars text) → c ≡ get_or (chars text) i c
-    → b ≡ byte_at i (chars text) → n ≡ len_utf8 c
-    → (b + n ≡ byte_at (i + 1) (chars text)) × (b + n ≤ length text) × (i + 1 ≤ length text)
-offset_on text i b c n u l here e size =
-    let cs = chars text in
-    let first : n ≡ byte_at 1 (drop i cs) = first_offset n c (drop i cs) (drop (suc i) cs)
-    (size ∙ sym (length-encode c)) (drop-cons cs i c l ∙ ap (λ x. x ∷ drop (suc i) cs) (sym here)) in
-    let next : b + n ≡ byte_at (i + 1) cs = ap₂ (λ x y. x + y) e first ∙ byte_at_on i 1 cs in
-    let within : b + n ≤ length text = byte_at_within (i + 1) (b + n) text u next in
-    let wide : i + 1 ≤ byte_at (i + 1) cs = omega (
-      arith,
-      length-le-encodes (take (i + 1) cs),
-      length-take-le (i + 1) cs (omega (arith, l)),
-    ) in (
-      next,
-      within,
-      omega (arith, wide, next, within),
-    )
 
 -- an ASCII character is one byte
 pub ascii_first : (b n : ℕ) (cs : List ℕ) → b < 128 → byte_at (suc n) (b ∷ cs) ≡ suc (byte_at n cs)

@@ -36,9 +36,6 @@ place_column p b e f = rw (e, f) refl
 
 -- ---- so many characters
 
-pub count_inner : (count n b : ℕ) → is_inner b ≡ true → count_machine count n b ≡ Some n
-count_inner count n b e = rw e refl
-
 pub count_on : (count n b : ℕ) → is_inner b ≡ false → (n ≡ count → ⊥) → count_machine count n b ≡ Some (n + 1)
 count_on count n b e f = rw (e, ne_eqb n count f) refl
 

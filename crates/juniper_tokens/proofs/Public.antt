@@ -1,7 +1,7 @@
 -- What proofs of other crates may import of this crate's proofs, and all of it.
 pub use Rattle.juniper_tokens.proofs.Offsets.{ascii_first, byte_at_boundary, chars_drop, chars_take, chars_within}
 pub use Rattle.juniper_tokens.proofs.ByteRuns.{inner_high, inner_low, low_or_high, wide}
-pub use Rattle.juniper_tokens.proofs.Counting.{few_here, has_few_after, few_not_more, few_or_more, has_more_after, more_here}
+pub use Rattle.juniper_tokens.proofs.Counting.{few_not_more, few_or_more}
 pub use Rattle.juniper_tokens.proofs.Gathering.{Gathered, gathered_open, gathered_token}
 pub use Rattle.juniper_tokens.proofs.Lanes.{counted}
 pub use Rattle.juniper_tokens.proofs.Rests.{follows, on_memory}

@@ -30,7 +30,7 @@ use Rattle.juniper_tokens.specs.device.Scans.{Finds}
 use Rattle.juniper_tokens.specs.Lexing.{PassesToken, LexerState, GivesItem, GivesToken}
 use Rattle.juniper_tokens.specs.device.LexingByScan.{past_ignored, IsPlaced}
 use Rattle.juniper_tokens.specs.device.Ranges.{range_of, range_slice, range_lexeme, IsRange, TakesRange, TakesItem, MayTake, GivesRange, GivesRangeItem, range_steps, range_or_none}
-use Rattle.juniper_tokens.proofs.Offsets.{byte_at_within, byte_at_on, bytes_between, fits_from}
+use Rattle.juniper_tokens.proofs.Offsets.{byte_at_least, byte_at_within, byte_at_on, bytes_between, fits_from}
 use Rattle.juniper_tokens.proofs.LexingByScan.{same_end, fault_by_scan, memory_by_scan}
 use Rattle.juniper_tokens.proofs.Places.{place_on, line_end}
 
@@ -39,47 +39,72 @@ use Rattle.juniper_tokens.proofs.Places.{place_on, line_end}
 -- so many bytes on from the start is the end
 range_bytes : (source : List ℕ) (r : TokenRange) → IsRange source r
     → r.start.bytes + byte_at (r.end.characters - r.start.characters) (drop r.start.characters source) ≡ r.end.bytes
-range_bytes source r h = bytes_between source r.start.characters r.end.characters r.start.bytes r.end.bytes h.start h.end
+range_bytes source r h = bytes_between source r.start.characters r.end.characters r.start.bytes r.end.bytes h.start
+    h.end
     h.forward
 
 pub range_order : (source : List ℕ) (r : TokenRange) → IsRange source r → r.start.bytes ≤ r.end.bytes
 range_order source r h = omega (arith, range_bytes source r h)
 
+-- no more characters than bytes
+pub range_fewer : (source : List ℕ) (r : TokenRange) → IsRange source r
+    → r.end.characters - r.start.characters ≤ r.end.bytes - r.start.bytes
+range_fewer source r h =
+    let n = r.end.characters - r.start.characters in
+    let rest = drop r.start.characters source in
+    omega (
+      arith,
+      range_bytes source r h,
+      byte_at_least n rest (omega (arith, h.forward, h.within, length-drop r.start.characters source)),
+    )
+
 pub range_width : (source rest : List ℕ) (r : TokenRange) → IsRange source r → rest ≡ drop r.start.characters source
     → r.end.bytes - r.start.bytes ≡ byte_at (r.end.characters - r.start.characters) rest
 range_width source rest r h e =
-    let width : r.end.bytes - r.start.bytes ≡ byte_at (r.end.characters - r.start.characters) (drop r.start.characters source) =
+    let width : r.end.bytes - r.start.bytes ≡ byte_at (r.end.characters - r.start.characters) (drop r.start.characters
+    source) =
     omega (arith, range_bytes source r h) in
     width ∙ ap (byte_at (r.end.characters - r.start.characters)) (sym e)
 
 -- what is left from its start on is no longer than the source
-pub range_fits : (source rest : List ℕ) (r : TokenRange) → IsRange (chars source) r → r.start.bytes + length rest ≡ length source
+pub range_fits : (source rest : List ℕ) (r : TokenRange) → IsRange (chars source) r → r.start.bytes + length rest ≡
+    length source
     → length source < 2 ^ 64
     → r.start.characters + length rest < 2 ^ 64
 range_fits source rest r h e l = fits_from source rest r.start.characters r.start.bytes h.start
     (omega (arith, h.forward, h.within)) e l
 
 -- the place of its start
-pub start_index : (source : List ℕ) (r : TokenRange) (p : Place) → IsRange source r → p ≡ place source r.start.characters
+pub start_index : (source : List ℕ) (r : TokenRange) (p : Place) → IsRange source r → p ≡ place source
+    r.start.characters
     → p.index ≡ r.start.characters
 start_index source r p h e = ap (λ (x : Place). x.index) e
     ∙ place_index source r.start.characters (omega (arith, h.forward, h.within))
 
 -- the place after it
-pub range_end : (source rest : List ℕ) (r : TokenRange) (p : Place) → IsRange source r → p ≡ place source r.start.characters
+pub range_end : (source rest : List ℕ) (r : TokenRange) (p : Place) → IsRange source r → p ≡ place source
+    r.start.characters
     → rest ≡ drop r.start.characters source
     → fold past_character p (take (r.end.characters - r.start.characters) rest) ≡ place source r.end.characters
 range_end source rest r p h at e =
-    let sum : r.start.characters + (r.end.characters - r.start.characters) ≡ r.end.characters = omega (arith, h.forward) in
+    let sum : r.start.characters + (r.end.characters - r.start.characters) ≡ r.end.characters = omega (
+      arith,
+      h.forward,
+    ) in
     ap₂ (λ s t. fold past_character s (take (r.end.characters - r.start.characters) t)) at e
     ∙ (place_on source r.start.characters (r.end.characters - r.start.characters) ∙ ap (place source) sum)
 
 -- a token that is no block string ends on its line
-pub ends_on_line : (source : List ℕ) (r : TokenRange) (p : Place) → IsRange source r → p ≡ place source r.start.characters
+pub ends_on_line : (source : List ℕ) (r : TokenRange) (p : Place) → IsRange source r → p ≡ place source
+    r.start.characters
     → same_kind r.kind kinds.BlockString ≡ false
     → columns_on (r.end.characters - r.start.characters) p ≡ place source r.end.characters
 ends_on_line source r p h at e =
-    ap (columns_on (r.end.characters - r.start.characters)) at ∙ h.lined (λ b. absurd (cc (e, ap (λ (k : Kind). same_kind k kinds.BlockString) b)))
+    ap (columns_on (r.end.characters - r.start.characters)) at ∙ h.lined (λ b. absurd (cc (
+      e,
+      ap (λ (k : Kind).
+          same_kind k kinds.BlockString) b,
+    )))
 
 -- where a lexer stands after it
 pub placed_after : (source : List ℕ) (at : ℕ) (p q : Place) (r : TokenRange) → IsPlaced source at p
@@ -145,6 +170,21 @@ found_range source at p f h s =
           ap (columns_on ((j + n) - j)) (sym h.place_is) ∙ ap (λ m. columns_on m p) size ∙ (line_end p rest _ s.0 k
           ∙ (ap (λ x. fold past_character x (take n rest)) h.place_is ∙ place_on text j n));
     }
+
+-- no more characters than bytes
+pub found_fewer : (rest : List ℕ) (f : Found) → Finds rest f → f.end.characters ≤ f.end.bytes
+found_fewer rest f s =
+    let within = read_within rest f.end.characters f.kind _ ((finds_what_reads rest _).0 s.0) in
+    omega (arith, s.1, byte_at_least f.end.characters rest within)
+
+-- a token that ends on its line
+pub found_on_line : (source : List ℕ) (at : ℕ) (p : Place) (f : Found) → IsPlaced source at p
+    → Finds (drop p.index (chars source)) f → same_kind f.kind kinds.BlockString ≡ false
+    → columns_on f.end.characters p ≡ place (chars source) (p.index + f.end.characters)
+found_on_line source at p f h s e =
+    let size : f.end.characters ≡ (p.index + f.end.characters) - p.index = omega arith in
+    ap (λ m. columns_on m p) size
+    ∙ ends_on_line (chars source) (range_of f at p) p (found_range source at p f h s) h.place_is e
 
 -- its end is within the source
 pub found_fits : (source : List ℕ) (at : ℕ) (p : Place) (f : Found) → IsUtf8 source → IsPlaced source at p
@@ -249,7 +289,8 @@ token_given s r token t h e =
       ends = subst (λ k. (t.ended ≡ true) ↔ (k ≡ kinds.EndOfFile)) (sym (ap (λ (x : Lexeme). x.kind) e)) g.ends;
     }
 
-pub failure_given : (s : LexerState) (failure : LexFailure) (t : LexerState) → TakesItem (past_ignored s) (Err failure) t
+pub failure_given : (s : LexerState) (failure : LexFailure) (t : LexerState) → TakesItem (past_ignored s) (Err
+    failure) t
     → GivesItem s (Err failure) t
 failure_given s (failures.Fault fault) t h = fault_by_scan s fault t h
 failure_given s failures.Memory t h = memory_by_scan s t h.0 h.1

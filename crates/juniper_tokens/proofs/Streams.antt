@@ -18,10 +18,12 @@ use Rattle.juniper_tokens.specs.device.Scans.{MissesEscape}
 use Rattle.juniper_tokens.specs.device.Ranges.{range_lexeme, range_slice, IsRange, TakesRange, TakesItem}
 use Rattle.graphql_lexical.specs.device.Streams.{Tokens, with_first, only, short_at, only_end, last_at, found_or}
 use Rattle.graphql_lexical.specs.device.Streams.{next_at, opened_with, closed_with, goes_deep, after_token, stream}
-use Rattle.juniper_tokens.specs.declared.stream.Placed.{Placed}
 use Rattle.juniper_tokens.specs.device.LexingByScan.{past_ignored}
 use Rattle.juniper_tokens.specs.device.Streams.{StreamState, Gives, GivesNext, Counts, rest_of, rest_here, past_token}
-use Rattle.juniper_tokens.specs.device.Streams.{with_next}
+use Rattle.juniper_tokens.specs.device.Streams.{Standing, moved, standing, with_next}
+use Rattle.juniper_tokens.specs.declared.stream.Placed.{Placed}
+use Rattle.juniper_tokens.specs.device.BytePlaces.{BytePlace, byte_place}
+use Rattle.juniper_tokens.specs.device.ByteRuns.{byte_at}
 use Rattle.juniper_tokens.proofs.Ranges.{read_text}
 
 -- ---- a token that was taken where a lexer stands
@@ -77,6 +79,31 @@ module _ (u : LexerState) (r : TokenRange) (v : LexerState) (h : TakesRange u r 
   pub last_more : is_end r.kind ≡ false → last_at u.source u.index (scan rest) ≡ short_at u.source u.index
   last_more e = ap (last_at u.source u.index) h.scanned ∙ ap (only_end u.source u.index it) e
 
+  -- the token that was taken, as what is kept of it
+  pub stands_as : (p : Placed) (t : StreamState) → p.kind ≡ r.kind → p.start ≡ byte_place u.source u.index
+      → p.start.place.index ≡ u.index → t.source ≡ u.source → t.index ≡ v.index
+      → standing t p ≡ record { range = r; start = place u.source u.index }
+  stands_as p t kind start index same there =
+      let made : Kind → ℕ → ℕ → ℕ → ℕ → Place → Standing = λ k sb sc eb ec q. record {
+        range = record {
+          kind = k;
+          start = record { bytes = sb; characters = sc };
+          end = record { bytes = eb; characters = ec };
+        };
+        start = q;
+      } in
+      let from : p.start.place.index ≡ r.start.characters = index ∙ sym h.from in
+      let to : t.index ≡ r.end.characters = there ∙ h.to in
+      let first : p.start.byte ≡ r.start.bytes =
+      ap (λ (q : BytePlace). q.byte) start ∙ ap (λ i. byte_at i u.source) (sym h.from) ∙ sym h.is_range.start in
+      let last : byte_at t.index t.source ≡ r.end.bytes =
+      ap₂ (λ i s. byte_at i s) to same ∙ sym h.is_range.end in
+      ap (λ k. made k p.start.byte p.start.place.index (byte_at t.index t.source) t.index p.start.place) kind
+      ∙ (ap₂ (λ b i. made r.kind b i (byte_at t.index t.source) t.index p.start.place) first from
+      ∙ (ap₂ (λ b i. made r.kind r.start.bytes r.start.characters b i p.start.place) last to
+      ∙ ap (made r.kind r.start.bytes r.start.characters r.end.bytes r.end.characters)
+      (ap (λ (q : BytePlace). q.place) start)))
+
 -- ---- a lexical error there
 
 module _ (u : LexerState) (failure : LexFailure) (v : LexerState) (h : TakesItem u (Err failure) v) where
@@ -108,7 +135,7 @@ not_deep true left last some = absurd (omega (arith, last refl, some))
 not_deep false left last some = refl
 
 -- a stream whose lexer is in this state
-abbrev at_lexer : LexerState → ℕ → ℕ → ℕ → ℕ → ℕ → Bool → Bool → StreamState
+abbrev pub at_lexer : LexerState → ℕ → ℕ → ℕ → ℕ → ℕ → Bool → Bool → StreamState
 at_lexer l most depth left opened closed deep short = record {
   source = l.source;
   index = l.index;
@@ -135,7 +162,7 @@ module _ (most depth left opened closed : ℕ) (deep short : Bool) where
         ∙ ap (λ (n : ℕ). stream depth n l.source l.index opened closed) one
         ∙ sym (ap (λ (v : LexerState). rest_here (at v)) e)
 
-    pub gives_there : (l u : LexerState) → u ≡ past_ignored l → (p : Placed) (t : StreamState)
+    pub gives_there : (l u : LexerState) → u ≡ past_ignored l → (p : Standing) (t : StreamState)
         → Gives (at u) (rest_here (at u)) p t → GivesNext (at l) p t
     gives_there l u e p t g =
         let same : u.source ≡ l.source = ap (λ (v : LexerState). v.source) e in record {
@@ -197,7 +224,7 @@ module _ (most depth left opened closed : ℕ) (deep short : Bool) where
 
   -- where no token was found
   pub nothing_taken : (u : LexerState) (failure : LexFailure) (v : LexerState) → TakesItem u (Err failure) v
-      → (p : Placed) (t : StreamState) → Gives (at u) (short_at u.source u.index) p t
+      → (p : Standing) (t : StreamState) → Gives (at u) (short_at u.source u.index) p t
       → Gives (at u) (rest_here (at u)) p t
   nothing_taken u failure v h p t g = record {
     source_is = g.source_is;
@@ -245,7 +272,7 @@ module _ (most depth left opened closed : ℕ) (deep short : Bool) where
 
     -- what comes here is left out
     short_last : last_at u.source u.index (scan (drop u.index u.source)) ≡ short_at u.source u.index
-        → (p : Placed) (t : StreamState) → Gives (at u) (short_at u.source u.index) p t → GivesNext (at l) p t
+        → (p : Standing) (t : StreamState) → Gives (at u) (short_at u.source u.index) p t → GivesNext (at l) p t
     short_last h p t g = record {
       source_is = g.source_is ∙ same_there;
       most_is = g.most_is;
@@ -259,10 +286,57 @@ module _ (most depth left opened closed : ℕ) (deep short : Bool) where
     }
 
     pub token_left_out : (v : LexerState) (r : TokenRange) → TakesRange u r v → is_end r.kind ≡ false
-        → (p : Placed) (t : StreamState) → Gives (at u) (short_at u.source u.index) p t → GivesNext (at l) p t
+        → (p : Standing) (t : StreamState) → Gives (at u) (short_at u.source u.index) p t → GivesNext (at l) p t
     token_left_out v r h f p t g =
         short_last (last_more u r v h f) p t g
 
     pub error_left_out : (failure : LexFailure) (v : LexerState) → TakesItem u (Err failure) v
-        → (p : Placed) (t : StreamState) → Gives (at u) (short_at u.source u.index) p t → GivesNext (at l) p t
+        → (p : Standing) (t : StreamState) → Gives (at u) (short_at u.source u.index) p t → GivesNext (at l) p t
     error_left_out failure v h p t g = short_last (no_end_found u failure v h) p t g
+
+-- ---- a stream whose lexer went on
+
+module _ (s : StreamState) (some : 0 < s.left) (shallow : s.deep ≡ false) (l : LexerState)
+    (source : l.source ≡ s.source) (index : l.index ≡ s.index) where
+  abbrev with_lexer : LexerState → StreamState
+  with_lexer u = at_lexer u s.most s.depth s.left s.opened s.closed s.deep s.short
+
+  before : with_lexer l ≡ s
+  before = ap₂ (λ src i. at_lexer (record { source = src; index = i; ended = false }) s.most s.depth s.left s.opened
+      s.closed s.deep s.short) source index
+
+  after : (u : LexerState) → u.source ≡ l.source → with_lexer u ≡ moved s u.index
+  after u same = ap (λ src. at_lexer (record { source = src; index = u.index; ended = false }) s.most s.depth s.left
+      s.opened s.closed s.deep s.short) (same ∙ source)
+
+  -- past all ignored tokens
+  pub gives_past : (u : LexerState) → u ≡ past_ignored l → (p : Standing) (t : StreamState)
+      → Gives (moved s u.index) (rest_here (moved s u.index)) p t → GivesNext s p t
+  gives_past u e p t g =
+      subst (λ (x : StreamState). GivesNext x p t) before
+      (gives_there s.most s.depth s.left s.opened s.closed s.deep s.short some shallow l u e p t
+      (subst (λ (x : StreamState). Gives x (rest_here x) p t)
+      (sym (after u (ap (λ (w : LexerState). w.source) e))) g))
+
+  -- past some of them
+  pub gives_between : (v : LexerState) → v.source ≡ l.source → past_ignored v ≡ past_ignored l
+      → (p : Standing) (t : StreamState) → GivesNext (moved s v.index) p t → GivesNext s p t
+  gives_between v same passes p t g = record {
+    source_is = g.source_is;
+    most_is = g.most_is;
+    depth_is = g.depth_is;
+    is_range = g.is_range;
+    start_is = g.start_is;
+    to = g.to;
+    rest_is = rest_is ∙ g.rest_is;
+    going = g.going;
+    fewer = g.fewer;
+  }
+    where
+      rest_is : rest_of s ≡ rest_of (moved s v.index)
+      rest_is =
+          ap rest_of (sym before)
+          ∙ (rest_there s.most s.depth s.left s.opened s.closed s.deep s.short some shallow l (past_ignored l) refl
+          ∙ (sym (rest_there s.most s.depth s.left s.opened s.closed s.deep s.short some shallow v (past_ignored l)
+          (sym passes))
+          ∙ ap rest_of (after v same)))

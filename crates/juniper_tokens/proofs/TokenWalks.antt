@@ -16,7 +16,7 @@ use Rattle.juniper_tokens.specs.declared.lexer.run.Run.TheVariants as run
 use Rattle.juniper_tokens.specs.declared.lexer.text.Offset.{Offset}
 use Rattle.juniper_tokens.specs.device.ByteRuns.{is_inner, byte_at, with_value, count_one, on}
 use Rattle.juniper_tokens.specs.device.Walks.{run_test, RunsTo, token_machine, WalkedToken, StaysOver, is_in_float}
-use Rattle.juniper_tokens.proofs.ByteRuns.{reach_bytes, reach_with_value, same_with_value, in_bytes, on_none, walked_on}
+use Rattle.juniper_tokens.proofs.ByteRuns.{reach_bytes, reach_with_value, same_with_value, in_bytes, walked_on}
 use Rattle.juniper_tokens.proofs.Offsets.{chars_within}
 use Rattle.juniper_tokens.proofs.Runs.{counted_by_ones, FirstByte, low, high, first_byte}
 use Rattle.juniper_tokens.proofs.RunWalks.{goes_over, walked_further, same_place, plus_none, plus_plus}
@@ -43,13 +43,6 @@ string_over = stays_over run.Plain InString string_stays
 
 pub block_over : (bytes : List ℕ) (b : Offset) → RunsTo run.Block bytes b → StaysOver (InBlock Inside) bytes b
 block_over = stays_over run.Block (InBlock Inside) block_stays
-
-pub none_over : (q : State) (bytes : List ℕ) → StaysOver q bytes (record { bytes = 0; characters = 0 })
-none_over q bytes n = ap (λ k. reach token_machine (q, k) bytes) (sym (plus_none n))
-    ∙ on_none (reach token_machine (q, n + 0) bytes)
-
-pub token_inner : (q : State) (n b : ℕ) → is_inner b ≡ true → token_machine (q, n) b ≡ Some (q, n)
-token_inner q n b e = rw e refl
 
 pub token_step : (q p : State) (n b : ℕ) → is_inner b ≡ false → step q b ≡ Some p
     → token_machine (q, n) b ≡ Some (p, n + 1)

@@ -14,12 +14,13 @@ ghost use Rattle.juniper_tokens.specs.declared.span.Span.{Span};
 ghost use Rattle.juniper_tokens.specs.declared.error.ParseFailure.TheVariants.{Memory};
 ghost use Rattle.juniper_tokens.specs.device.Feeds.{taking_of};
 ghost use Rattle.juniper_tokens.specs.device.Ranges.{range_lexemes, AreLeft};
-ghost use Rattle.juniper_tokens.specs.device.Streams.{streamed};
+ghost use Rattle.juniper_tokens.specs.device.Streams.{range_to, streamed};
 ghost use Rattle.juniper_tokens.specs.device.LineSteps.{IsLine};
 ghost use Rattle.juniper_tokens.specs.LineTables.{IsOnLine};
 ghost use Rattle.juniper_tokens.specs.declared.token_range.TokenRange.{TokenRange};
 ghost use Rattle.juniper_tokens.specs.Tokens.{name_of, view_token};
 
+use crate::byte_position::BytePosition;
 use crate::error::{ParseError, ParseFailure, ParseResult};
 use crate::feed::{Feed, Listed};
 use crate::line::{Line, NearLines, place_on};
@@ -51,7 +52,7 @@ pub struct Cursor<'p, W: SourceText, M: Feed = Listed> {
     taken: usize,
     // Of a stream: the next token, and where the token that was taken last ends.
     next: Placed,
-    last_end: SourcePosition,
+    last_end: BytePosition,
 }
 
 impl<'p, W: SourceText, M: Feed> Model for Cursor<'p, W, M> {
@@ -96,7 +97,7 @@ impl<'p, W: SourceText> Cursor<'p, W, Listed> {
             stream: TokenStream::new(alloc, "", 0, 0),
             taken,
             next: Placed::at_origin(),
-            last_end: SourcePosition::new_origin(),
+            last_end: BytePosition::origin(),
         }
     }
 
@@ -135,7 +136,7 @@ impl<'p, W: SourceText, M: Feed> Cursor<'p, W, M> {
             stream,
             taken: 0,
             next,
-            last_end: SourcePosition::new_origin(),
+            last_end: BytePosition::origin(),
         }
     }
 
@@ -145,7 +146,7 @@ impl<'p, W: SourceText, M: Feed> Cursor<'p, W, M> {
         ensures whole { result ≡ true → self.now.whole ≡ true }
         ensures short { same_kind (kind_at (left self.now)) EndOfFile ≡ true → result ≡ self.now.whole }
     {
-        self.next.range.kind == Kind::EndOfFile && !self.stream.is_short()
+        self.next.kind == Kind::EndOfFile && !self.stream.is_short()
     }
 
     /// The allocator of the lexer that gave the tokens. A `Global` is a handle without data; there is only one.
@@ -170,7 +171,7 @@ impl<'p, W: SourceText, M: Feed> Cursor<'p, W, M> {
         ensures is { result ≡ kind_at (left self.now) }
         ensures ended { EndsOnce (left self.now) }
     {
-        next_range::<M>(&self.records, self.taken, &self.next).kind
+        next_range::<M>(&self.records, self.taken, &self.stream, &self.next).kind
     }
 
     /// The text of the next token: for a String or block string what is between its quotes, as it is written. For
@@ -178,7 +179,9 @@ impl<'p, W: SourceText, M: Feed> Cursor<'p, W, M> {
     pub fn text(&self) -> &str
         ensures { IsTrue (has_text (kind_at (left self.now))) → chars result.now ≡ (first_of (left self.now)).text }
     {
-        next_range::<M>(&self.records, self.taken, &self.next).text(self.source.as_str())
+        next_range::<M>(&self.records, self.taken, &self.stream, &self.next).text(
+            self.source.as_str(),
+        )
     }
 
     /// The text of the next token, which must be a Name, as a part of the source.
@@ -187,7 +190,7 @@ impl<'p, W: SourceText, M: Feed> Cursor<'p, W, M> {
         requires { same_kind (kind_at (left self.now)) Name ≡ true }
         ensures { W.characters result ≡ (first_of (left self.now)).text }
     {
-        let range = next_range::<M>(&self.records, self.taken, &self.next);
+        let range = next_range::<M>(&self.records, self.taken, &self.stream, &self.next);
         self.source.part(range.start, range.end)
     }
 
@@ -203,7 +206,7 @@ impl<'p, W: SourceText, M: Feed> Cursor<'p, W, M> {
         ensures { result ≡ (first_of (left self.now)).span.start }
     {
         if M::IS_STREAM {
-            self.next.start
+            self.next.start.position()
         } else {
             let index = self.records.ranges[self.taken].start.characters;
             place_on(self.records.starts, self.records.lines.line, index)
@@ -218,7 +221,7 @@ impl<'p, W: SourceText, M: Feed> Cursor<'p, W, M> {
         ensures within { self.now.taken < length self.now.tokens }
     {
         if M::IS_STREAM {
-            let end = self.last_end;
+            let end = self.last_end.position();
             Span { start, end }
         } else {
             let index = self.records.ranges[self.taken - 1].end.characters;
@@ -235,7 +238,7 @@ impl<'p, W: SourceText, M: Feed> Cursor<'p, W, M> {
         if M::IS_STREAM {
             let end = self.stream.position();
             Span {
-                start: self.next.start,
+                start: self.next.start.position(),
                 end,
             }
         } else {
@@ -248,7 +251,7 @@ impl<'p, W: SourceText, M: Feed> Cursor<'p, W, M> {
     fn located(&self) -> Spanning<Token<'_>>
         ensures { view_token result ≡ first_of (left self.now) }
     {
-        let range = next_range::<M>(&self.records, self.taken, &self.next);
+        let range = next_range::<M>(&self.records, self.taken, &self.stream, &self.next);
         range.located_at(self.source.as_str(), self.span())
     }
 
@@ -281,7 +284,7 @@ impl<'p, W: SourceText, M: Feed> Cursor<'p, W, M> {
         ensures taken { self.new ≡ next_taken self.old }
         ensures ended { EndsOnce (left self.old) }
     {
-        self.last_end = self.stream.position();
+        self.last_end = self.stream.here();
         self.stream.next(&mut self.next);
         self.taken += 1;
     }
@@ -354,7 +357,7 @@ impl<'p, 'a, M: Feed> Cursor<'p, &'a str, M> {
     pub fn token(&self) -> Spanning<Token<'a>>
         ensures { view_token result ≡ first_of (left self.now) }
     {
-        let range = next_range::<M>(&self.records, self.taken, &self.next);
+        let range = next_range::<M>(&self.records, self.taken, &self.stream, &self.next);
         range.located_at(self.source, self.span())
     }
 
@@ -377,13 +380,18 @@ impl<'p, 'a, M: Feed> Cursor<'p, &'a str, M> {
 
 // The range of the next token: of a stream the one that was read last, or else the record after those that were taken.
 #[inline(always)]
-fn next_range<M: Feed>(records: &TokenRecords<'_>, taken: usize, next: &Placed) -> TokenRange
+fn next_range<M: Feed>(
+    records: &TokenRecords<'_>,
+    taken: usize,
+    stream: &TokenStream<'_>,
+    next: &Placed,
+) -> TokenRange
     requires { M.IS_STREAM ≡ false → taken < length records.now.ranges.now }
-    ensures stream { M.IS_STREAM ≡ true → result ≡ next.now.range }
+    ensures stream { M.IS_STREAM ≡ true → result ≡ range_to stream.now next.now }
     ensures listed { M.IS_STREAM ≡ false → (r : TokenRange) → result ≡ get_or records.now.ranges.now taken r }
 {
     if M::IS_STREAM {
-        next.range
+        stream.range(next)
     } else {
         records.ranges[taken]
     }

@@ -1,5 +1,5 @@
 //! The lexer.
-ghost use Rattle.std.specs.Prelude.{◌≡◌, ◌≤◌, false, drop, IfOk, IfSome, OnOk, Some};
+ghost use Rattle.std.specs.Prelude.{◌≡◌, ◌≤◌, true, false, drop, length, IfOk, IfSome, OnOk, Some};
 ghost use Rattle.std.specs.Global.{Global as Allocator};
 ghost use Rattle.std.specs.Str.{chars};
 ghost use Rattle.graphql_lexical.specs.Place.{place};
@@ -7,11 +7,12 @@ ghost use Rattle.graphql_lexical.specs.declared.kind.Kind.TheVariants.{EndOfFile
 ghost use Rattle.graphql_lexical.specs.Kinds.{same_kind};
 ghost use Rattle.juniper_tokens.specs.Lexing.{started};
 ghost use Rattle.juniper_tokens.specs.LineTables.{lines_of};
+ghost use Rattle.juniper_tokens.specs.device.BytePlaces.{byte_place};
 ghost use Rattle.juniper_tokens.specs.device.LexingByScan.{past_ignored};
 ghost use Rattle.juniper_tokens.specs.device.LineSteps.{CountsLines, HasLines};
 ghost use Rattle.juniper_tokens.specs.device.Ranges.{TakesRange, TakesItem, TakesPlain, MayTake, IsRange, range_lexeme, range_or_none, range_steps};
 ghost use Rattle.juniper_tokens.specs.device.Scans.{Finds, IsPlain};
-ghost use Rattle.juniper_tokens.specs.device.Walks.{first_class};
+ghost use Rattle.juniper_tokens.specs.device.Walks.{first_class, never_ignored};
 ghost use Rattle.juniper_tokens.specs.Tokens.{view_token};
 
 mod lanes;
@@ -23,11 +24,12 @@ pub(crate) mod text;
 mod walk;
 
 use crate::byte_classes::ByteClass;
+use crate::byte_position::BytePosition;
 use crate::error::LexFailure;
 use crate::lexer::plain::plain_token;
 use crate::lexer::scan::{Missed, scan_token};
-use crate::lexer::text::{Offset, text_from};
-use crate::lexer::walk::walk_ignored;
+use crate::lexer::text::text_from;
+use crate::lexer::walk::{walk_blanks, walk_ignored};
 use crate::line_table::{LineStarts, LineTable};
 use crate::position::SourcePosition;
 use crate::span::{Span, Spanning};
@@ -52,10 +54,8 @@ pub type LexerResult<'a> = Result<Spanning<Token<'a>>, LexFailure>;
 pub struct Lexer<'a> {
     alloc: Global,
     source: &'a str,
-    // The offset of the rest, in bytes.
-    at: usize,
-    // The place of the rest.
-    position: SourcePosition,
+    // Where the rest begins.
+    here: BytePosition,
     ended: bool,
 }
 
@@ -67,9 +67,9 @@ impl<'a> Model for Lexer<'a> {
 
     ghost Value = { LexerState };
 
-    ghost view = { λ l. record { source = chars l.source.now; index = l.position.index; ended = l.ended } };
+    ghost view = { λ l. record { source = chars l.source.now; index = l.here.place.index; ended = l.ended } };
 
-    ghost invariant = { λ l. IsPlaced l.source.now l.at l.position };
+    ghost invariant = { λ l. IsPlaced l.source.now l.here.byte l.here.place };
 }
 
 impl<'a> Lexer<'a> {
@@ -92,8 +92,7 @@ impl<'a> Lexer<'a> {
         Lexer {
             alloc,
             source,
-            at: 0,
-            position: SourcePosition::new_origin(),
+            here: BytePosition::origin(),
             ended: false,
         }
     }
@@ -115,30 +114,22 @@ impl<'a> Lexer<'a> {
     pub(crate) fn position(&self) -> SourcePosition
         ensures { result ≡ place self.now.source self.now.index }
     {
-        self.position
+        self.here.position()
+    }
+
+    /// The lexer's position, with its byte.
+    #[inline(always)]
+    pub(crate) fn here(&self) -> BytePosition
+        ensures place { result ≡ byte_place self.now.source self.now.index }
+        ensures index { result.place.index ≡ self.now.index }
+        ensures within { self.now.index ≤ length self.now.source }
+    {
+        self.here
     }
 
     /// How many bytes of the source are left.
     pub(crate) fn bytes_left(&self) -> usize {
-        self.source.len().saturating_sub(self.at)
-    }
-
-    /// An end at the lexer's position.
-    pub(crate) fn end_here(&self) -> TokenRange
-        ensures range { IsRange self.now.source result }
-        ensures kind { result.kind ≡ EndOfFile }
-        ensures at { result.start.characters ≡ self.now.index }
-        ensures none { result.end.characters ≡ self.now.index }
-    {
-        let here = Offset {
-            bytes: self.at,
-            characters: self.position.index(),
-        };
-        TokenRange {
-            kind: Kind::EndOfFile,
-            start: here,
-            end: here,
-        }
+        self.source.len().saturating_sub(self.here.bytes())
     }
 
     /// Whether the last item has been returned.
@@ -154,14 +145,22 @@ impl<'a> Lexer<'a> {
         ensures passes { self.new ≡ past_ignored self.old }
         ensures class { result ≡ first_class (drop self.new.index self.new.source) }
     {
-        let here = Offset {
-            bytes: self.at,
-            characters: self.position.index(),
-        };
-        let ignored = walk_ignored(text_from(self.source, here), self.position);
-        self.at += ignored.bytes;
-        self.position = ignored.position;
+        let ignored = walk_ignored(self.source, self.here);
+        self.here = ignored.end;
         ignored.class
+    }
+
+    /// Skips ignored tokens up to the first comment or byte order mark, and returns the class of the byte there.
+    #[inline(always)]
+    pub(crate) fn skip_blanks(&mut self) -> ByteClass
+        ensures source { self.new.source ≡ self.old.source }
+        ensures passes { past_ignored self.new ≡ past_ignored self.old }
+        ensures ends { never_ignored result ≡ true → self.new ≡ past_ignored self.old }
+        ensures class { result ≡ first_class (drop self.new.index self.new.source) }
+    {
+        let blanks = walk_blanks(self.source, self.here);
+        self.here = blanks.end;
+        blanks.class
     }
 
     // Advances past the token that was found here.
@@ -170,10 +169,9 @@ impl<'a> Lexer<'a> {
         ensures source { self.new.source ≡ self.old.source }
         ensures takes { TakesRange self.old result self.new }
     {
-        let start = self.position;
-        let range = TokenRange::from_found(found, self.source, self.at, start);
-        self.at = range.end.bytes;
-        self.position = range.end_position(self.source, start);
+        let start = self.here;
+        let range = TokenRange::from_found(found, self.source, start);
+        self.here = range.end_position(self.source, start);
         self.ended = range.kind == Kind::EndOfFile;
         range
     }
@@ -187,10 +185,9 @@ impl<'a> Lexer<'a> {
         ensures takes { TakesRange self.old result self.new }
         ensures goes_on { self.new.ended ≡ false }
     {
-        let start = self.position;
-        let range = TokenRange::from_found(found, self.source, self.at, start);
-        self.at = range.end.bytes;
-        self.position = range.end_on_line(start);
+        let start = self.here;
+        let range = TokenRange::from_found(found, self.source, start);
+        self.here = start.past(found.end);
         self.ended = false;
         range
     }
@@ -202,7 +199,7 @@ impl<'a> Lexer<'a> {
         requires before { lines.old.at.characters ≤ self.now.index }
         ensures { OnOk result (HasLines self.now.source lines.new self.now.index) }
     {
-        lines.follow(self.source, self.at, self.position)
+        lines.follow(self.source, self.here.bytes(), self.here.position())
     }
 
     /// The table of the source's lines, read up to the lexer's position.
@@ -210,7 +207,7 @@ impl<'a> Lexer<'a> {
         requires { HasLines self.now.source lines self.now.index }
         ensures { IfOk result (λ table. table ≡ lines_of self.now.source) }
     {
-        lines.into_table(self.source, self.at, self.position)
+        lines.into_table(self.source, self.here.bytes(), self.here.position())
     }
 
     /// A copy of this lexer.
@@ -224,8 +221,7 @@ impl<'a> Lexer<'a> {
         Lexer {
             alloc: self.alloc,
             source: self.source,
-            at: self.at,
-            position: self.position,
+            here: self.here,
             ended: self.ended,
         }
     }
@@ -238,8 +234,7 @@ impl<'a> Lexer<'a> {
         ensures index { self.new.index ≡ other.now.index }
         ensures ended { self.new.ended ≡ self.old.ended }
     {
-        self.at = other.at;
-        self.position = other.position;
+        self.here = other.here;
     }
 
     /// Skips ignored tokens, and takes the token after them if it is a plain one.
@@ -264,11 +259,7 @@ impl<'a> Lexer<'a> {
         ensures ended { self.old.ended ≡ false → self.new.ended ≡ false }
         ensures more { IfSome result (λ range. same_kind range.kind EndOfFile ≡ false) }
     {
-        let here = Offset {
-            bytes: self.at,
-            characters: self.position.index(),
-        };
-        let found = plain_token(class, text_from(self.source, here))?;
+        let found = plain_token(class, text_from(self.source, self.here.offset()))?;
         Some(self.advance_on_line(found))
     }
 
@@ -294,16 +285,12 @@ impl<'a> Lexer<'a> {
         ensures source { self.new.source ≡ self.old.source }
         ensures takes { TakesItem self.old result self.new }
     {
-        let here = Offset {
-            bytes: self.at,
-            characters: self.position.index(),
-        };
-        let rest = text_from(self.source, here);
+        let rest = text_from(self.source, self.here.offset());
         match scan_token(alloc, rest) {
             Ok(found) => Ok(self.advance(found)),
             Err(Missed::Fault(error, at)) => {
                 self.ended = true;
-                let place = walk_characters(rest, self.position, at);
+                let place = walk_characters(rest, self.here.position(), at);
                 Err(LexFailure::Fault(Spanning::zero_width(&place, error)))
             }
             Err(Missed::Memory) => {
@@ -353,7 +340,7 @@ impl<'a> Lexer<'a> {
         let origin = SourcePosition::new_origin();
         Span {
             start: walk_characters(self.source, origin, index),
-            end: self.position,
+            end: self.here.position(),
         }
     }
 
@@ -367,7 +354,7 @@ impl<'a> Lexer<'a> {
     {
         let span = Span {
             start,
-            end: self.position,
+            end: self.here.position(),
         };
         range.located_at(self.source, span)
     }
@@ -391,7 +378,7 @@ impl<'a> Iterator for Lexer<'a> {
             return None;
         }
         let class = self.skip_ignored();
-        let start = self.position;
+        let start = self.here.position();
         match self.take_plain(class) {
             Some(range) => Some(Ok(self.token(range, start))),
             None => match self.scan() {

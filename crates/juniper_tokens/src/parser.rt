@@ -1,5 +1,5 @@
 //! The cursor over the tokens of a source.
-ghost use Rattle.std.specs.Prelude.{◌≡◌, ◌-◌, ◌^◌, ◌<◌, ◌≤◌, [], ◌∷◌, drop, false, true, length, option_map, OnOk, IfOk, IfErr};
+ghost use Rattle.std.specs.Prelude.{◌≡◌, ◌-◌, ◌^◌, ◌<◌, ◌≤◌, [], drop, false, true, length, option_map, OnOk, IfOk, IfErr};
 ghost use Rattle.std.specs.List.{All};
 ghost use Rattle.std.specs.Global.{Global as Allocator};
 ghost use Rattle.std.specs.Str.{chars};
@@ -33,7 +33,7 @@ use crate::text::same_text;
 use crate::token::Token;
 use crate::token_range::TokenRange;
 use graphql_lexical::Kind;
-use std::alloc::{AllocError, Global};
+use std::alloc::Global;
 use std::marker::Model;
 
 /// A cursor over the tokens of a source that are left. The last of them, and no other, is the end.

@@ -1,5 +1,5 @@
 //! Positions in a source text.
-ghost use Rattle.std.specs.Prelude.{◌≡◌, ℕ, ◌+◌, ◌<◌, ◌≤◌, ◌^◌, Some};
+ghost use Rattle.std.specs.Prelude.{◌≡◌, ◌+◌, ◌-◌, ◌<◌, ◌≤◌, ◌^◌, Some};
 ghost use Rattle.graphql_lexical.specs.Place.{Place, origin, next_column, next_line};
 ghost use Rattle.juniper_tokens.specs.Positions.{columns_on, position_text};
 
@@ -75,6 +75,14 @@ impl SourcePosition {
             line: self.line,
             col: self.col + count,
         }
+    }
+
+    /// The index at which the line of this position begins.
+    pub(crate) fn line_start(&self) -> usize
+        ensures is { result ≡ self.now.index - self.now.column }
+        ensures fits { self.now.line + self.now.column ≤ self.now.index }
+    {
+        self.index - self.col
     }
 
     /// The number of characters before this position.

@@ -1,12 +1,15 @@
 //! The tokens of a source one after another, within limits.
-ghost use Rattle.std.specs.Prelude.{◌≡◌, false};
+ghost use Rattle.std.specs.Prelude.{◌≡◌, drop, false};
 ghost use Rattle.std.specs.Str.{chars};
 ghost use Rattle.graphql_lexical.specs.Place.{place};
 ghost use Rattle.graphql_lexical.specs.device.Streams.{short_at};
-ghost use Rattle.juniper_tokens.specs.device.Streams.{Counts, Gives, GivesNext, IsOpen, begun, rest_here};
+ghost use Rattle.juniper_tokens.specs.device.BytePlaces.{byte_place};
+ghost use Rattle.juniper_tokens.specs.device.Walks.{first_class};
+ghost use Rattle.juniper_tokens.specs.device.Streams.{Counts, Gives, GivesNext, IsOpen, begun, moved, range_to, rest_here, standing};
 
+use crate::byte_classes::ByteClass;
+use crate::byte_position::BytePosition;
 use crate::lexer::Lexer;
-use crate::lexer::text::Offset;
 use crate::nesting::{is_closing, is_opening};
 use crate::position::SourcePosition;
 use crate::token_range::TokenRange;
@@ -14,11 +17,11 @@ use graphql_lexical::Kind;
 use std::alloc::Global;
 use std::marker::Model;
 
-/// A token as a range of its source, and the position at which it begins.
+/// A token's kind, and the position at which it begins. It ends where the stream is that read it.
 #[derive(Clone, Copy)]
 pub(crate) struct Placed {
-    pub(crate) range: TokenRange,
-    pub(crate) start: SourcePosition,
+    pub(crate) kind: Kind,
+    pub(crate) start: BytePosition,
 }
 
 /// The tokens of a source, each read when it is asked for.
@@ -55,17 +58,9 @@ impl<'a> Model for TokenStream<'a> {
 impl Placed {
     /// An end at the beginning of a source.
     pub(crate) fn at_origin() -> Self {
-        let origin = Offset {
-            bytes: 0,
-            characters: 0,
-        };
         Placed {
-            range: TokenRange {
-                kind: Kind::EndOfFile,
-                start: origin,
-                end: origin,
-            },
-            start: SourcePosition::new_origin(),
+            kind: Kind::EndOfFile,
+            start: BytePosition::origin(),
         }
     }
 }
@@ -94,6 +89,14 @@ impl<'a> TokenStream<'a> {
         self.is_short
     }
 
+    /// The position after the token that was read last, with its byte.
+    #[inline(always)]
+    pub(crate) fn here(&self) -> BytePosition
+        ensures { result ≡ byte_place self.now.source self.now.index }
+    {
+        self.lexer.here()
+    }
+
     /// The position after the token that was read last.
     #[inline(always)]
     pub(crate) fn position(&self) -> SourcePosition
@@ -107,29 +110,68 @@ impl<'a> TokenStream<'a> {
         self.lexer.bytes_left() / 4
     }
 
+    /// The range of a token that was read last.
+    #[inline(always)]
+    pub(crate) fn range(&self, last: &Placed) -> TokenRange
+        ensures { result ≡ range_to self.now last.now }
+    {
+        TokenRange {
+            kind: last.kind,
+            start: last.start.offset(),
+            end: self.lexer.here().offset(),
+        }
+    }
+
     /// Reads the next token into `next`.
     #[inline(always)]
     pub(crate) fn next(&mut self, next: &mut Placed)
         requires { self.old.short ≡ false }
-        ensures { GivesNext self.old next.new self.new }
+        ensures { GivesNext self.old (standing self.new next.new) self.new }
     {
         if self.left == 0 {
             return self.last(next);
         }
         let mut lexer = self.lexer.duplicate();
+        let class = lexer.skip_blanks();
+        // Names and punctuators are most tokens. Each has code of its own, which is small.
+        if class == ByteClass::NameStart {
+            return self.take(&mut lexer, ByteClass::NameStart, next);
+        }
+        if class == ByteClass::Punctuator {
+            return self.take(&mut lexer, ByteClass::Punctuator, next);
+        }
+        self.lexer.go_to(&lexer);
+        self.next_of_any_class(next);
+    }
+
+    // `next`, where one more token may come, whatever it begins with.
+    #[inline(never)]
+    fn next_of_any_class(&mut self, next: &mut Placed)
+        requires { IsOpen self.old }
+        ensures { GivesNext self.old (standing self.new next.new) self.new }
+    {
+        let mut lexer = self.lexer.duplicate();
         let class = lexer.skip_ignored();
-        next.start = lexer.position();
+        self.take(&mut lexer, class, next);
+    }
+
+    // Reads the token at which a lexer stands, before a byte of this class.
+    #[inline(always)]
+    fn take(&mut self, lexer: &mut Lexer<'a>, class: ByteClass, next: &mut Placed)
+        requires open { IsOpen self.old }
+        requires source { lexer.old.source ≡ self.old.source }
+        requires class { class ≡ first_class (drop lexer.old.index lexer.old.source) }
+        ensures { Gives (moved self.old lexer.old.index) (rest_here (moved self.old lexer.old.index)) (standing self.new next.new) self.new }
+    {
+        next.start = lexer.here();
         match lexer.take_plain(class) {
             Some(range) => {
-                // field by field: a copy of the whole also clears its unused bytes
-                next.range.kind = range.kind;
-                next.range.start = range.start;
-                next.range.end = range.end;
-                self.lexer.go_to(&lexer);
+                next.kind = range.kind;
+                self.lexer.go_to(lexer);
                 self.count(range.kind);
             }
             None => {
-                self.lexer.go_to(&lexer);
+                self.lexer.go_to(lexer);
                 self.other(next);
             }
         }
@@ -141,7 +183,7 @@ impl<'a> TokenStream<'a> {
     fn last(&mut self, next: &mut Placed)
         requires none { self.old.left ≡ 0 }
         requires whole { self.old.short ≡ false }
-        ensures { GivesNext self.old next.new self.new }
+        ensures { GivesNext self.old (standing self.new next.new) self.new }
     {
         if self.is_deep {
             return self.end_here(next);
@@ -149,11 +191,11 @@ impl<'a> TokenStream<'a> {
         let mut lexer = self.lexer.duplicate();
         lexer.skip_ignored();
         self.lexer = lexer.duplicate();
-        let start = lexer.position();
+        let start = lexer.here();
         match lexer.scan_out_of_line(None) {
             Ok(range) if range.kind == Kind::EndOfFile => {
                 self.lexer = lexer;
-                next.range = range;
+                next.kind = range.kind;
                 next.start = start;
             }
             _ => self.end_here(next),
@@ -164,13 +206,13 @@ impl<'a> TokenStream<'a> {
     #[inline(never)]
     fn other(&mut self, next: &mut Placed)
         requires { IsOpen self.old }
-        ensures { Gives self.old (rest_here self.old) next.new self.new }
+        ensures { Gives self.old (rest_here self.old) (standing self.new next.new) self.new }
     {
         let mut lexer = self.lexer.duplicate();
         match lexer.scan_out_of_line(None) {
             Ok(range) => {
-                next.range = range;
-                next.start = self.lexer.position();
+                next.kind = range.kind;
+                next.start = self.lexer.here();
                 self.lexer = lexer;
                 if range.kind != Kind::EndOfFile {
                     self.count(range.kind);
@@ -183,11 +225,11 @@ impl<'a> TokenStream<'a> {
     // Ends the tokens here, before the end of the source.
     #[cold]
     fn end_here(&mut self, next: &mut Placed)
-        ensures { Gives self.old (short_at self.old.source self.old.index) next.new self.new }
+        ensures { Gives self.old (short_at self.old.source self.old.index) (standing self.new next.new) self.new }
     {
         self.is_short = true;
-        next.range = self.lexer.end_here();
-        next.start = self.lexer.position();
+        next.kind = Kind::EndOfFile;
+        next.start = self.lexer.here();
     }
 
     // Counts a token of this kind, which was read.

@@ -1,5 +1,5 @@
 //! Tokens as parts of their source.
-ghost use Rattle.std.specs.Prelude.{◌≡◌, ◌-◌, ◌<◌, ◌≤◌, drop, length};
+ghost use Rattle.std.specs.Prelude.{◌≡◌, ◌-◌, ◌<◌, ◌≤◌, ◌^◌, drop, length};
 ghost use Rattle.std.specs.Str.{chars};
 ghost use Rattle.graphql_lexical.specs.Place.{place};
 ghost use Rattle.graphql_lexical.specs.device.Whole.{text_of};
@@ -7,11 +7,13 @@ ghost use Rattle.juniper_tokens.specs.LineTables.{lines_of, IsOnLine};
 ghost use Rattle.juniper_tokens.specs.Positions.{columns_on};
 ghost use Rattle.juniper_tokens.specs.Spans.{view_span};
 ghost use Rattle.juniper_tokens.specs.Tokens.{view_token};
+ghost use Rattle.juniper_tokens.specs.device.BytePlaces.{byte_place};
 ghost use Rattle.juniper_tokens.specs.device.LexingByScan.{IsPlaced};
 ghost use Rattle.juniper_tokens.specs.device.LineSteps.{IsLine};
 ghost use Rattle.juniper_tokens.specs.device.Scans.{Finds};
 ghost use Rattle.juniper_tokens.specs.device.Ranges.{IsRange, range_of, range_slice, range_lexeme};
 
+use crate::byte_position::BytePosition;
 use crate::lexer::text::{Offset, text_before, text_from, unquoted};
 use crate::lexer::{Found, walk_text};
 use crate::line::{Line, line_near, line_of, place_on};
@@ -31,22 +33,20 @@ pub(crate) struct TokenRange {
 }
 
 impl TokenRange {
-    /// The range of a token that was found in a source at the byte `at` and the position `start`.
+    /// The range of a token that was found in a source at the position `start`.
     #[inline(always)]
-    pub(crate) fn from_found(found: Found, source: &str, at: usize, start: SourcePosition) -> Self
-        requires placed { IsPlaced source.now at start }
-        requires found { Finds (drop start.index (chars source.now)) found }
-        ensures { result ≡ range_of found at start }
+    pub(crate) fn from_found(found: Found, source: &str, start: BytePosition) -> Self
+        requires placed { IsPlaced source.now start.byte start.place }
+        requires found { Finds (drop start.place.index (chars source.now)) found }
+        ensures { result ≡ range_of found start.byte start.place }
     {
+        let from = start.offset();
         TokenRange {
             kind: found.kind,
-            start: Offset {
-                bytes: at,
-                characters: start.index(),
-            },
+            start: from,
             end: Offset {
-                bytes: at + found.end.bytes,
-                characters: start.index() + found.end.characters,
+                bytes: from.bytes + found.end.bytes,
+                characters: from.characters + found.end.characters,
             },
         }
     }
@@ -73,18 +73,20 @@ impl TokenRange {
         start.columns_on(self.end.characters - self.start.characters)
     }
 
-    /// The position after the last character; the first is at the position `start`. A block string alone may end on a
-    /// later line.
+    /// The position after the last character, with its byte; the first is at the position `start`. A block string alone
+    /// may end on a later line.
     #[inline(always)]
-    pub(crate) fn end_position(&self, source: &str, start: SourcePosition) -> SourcePosition
+    pub(crate) fn end_position(&self, source: &str, start: BytePosition) -> BytePosition
         requires range { IsRange (chars source.now) self.now }
-        requires start { start ≡ place (chars source.now) self.now.start.characters }
-        ensures { result ≡ place (chars source.now) self.now.end.characters }
+        requires start { start ≡ byte_place (chars source.now) self.now.start.characters }
+        requires fits { length source.now < 2 ^ 64 }
+        ensures { result ≡ byte_place (chars source.now) self.now.end.characters }
     {
         if self.kind == Kind::BlockString {
-            self.end_by_walk(source, start)
+            let end = self.end_by_walk(source, start.position());
+            BytePosition::new(self.end.bytes, end)
         } else {
-            self.end_on_line(start)
+            start.past(self.size())
         }
     }
 

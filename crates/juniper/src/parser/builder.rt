@@ -2,7 +2,7 @@
 ghost use Rattle.std.specs.Prelude.{◌≡◌, ◌++◌, ◌∷◌, [], List, Option, option_map, IfOk, OnOk};
 ghost use Rattle.graphql_grammar.specs.Tokens.{Located, Word};
 ghost use Rattle.graphql_grammar.specs.Tree as tree;
-ghost use Rattle.graphql_grammar.specs.Tree.{Value as Seen, Null, Scalar as SeenScalar, Enum, Variable, ListOf, Object, items_of, fields_of, TypeRef};
+ghost use Rattle.graphql_grammar.specs.Tree.{Value as Seen, Null, Scalar as SeenScalar, Enum, Variable, ListOf, Object, items_of, fields_of};
 ghost use Rattle.juniper_tokens.specs.declared.error.ParseFailure.TheVariants as parses;
 ghost use Rattle.juniper_tokens.specs.Spans.{view_span};
 ghost use Rattle.juniper_tokens.specs.Tokens.{scalar_kind, scalar_text};

@@ -1,9 +1,8 @@
 //! Operations and fragments (GraphQL specification, October 2021, sections 2.2, 2.3 and 2.8).
-ghost use Rattle.std.specs.Prelude.{◌≡◌, ◌<◌, ◌≤◌, length, Some, None, option_map, OnOk, codes, if◌then◌else◌};
-ghost use Rattle.std.specs.Str.{chars};
+ghost use Rattle.std.specs.Prelude.{◌≡◌, ◌<◌, ◌≤◌, length, Some, None, option_map, OnOk, if◌then◌else◌};
 ghost use Rattle.graphql_grammar.specs.device.Reading.{passes};
 ghost use Rattle.graphql_grammar.specs.device.Productions.{optional_name, fragment_name, operation, fragment, shorthand, operation_word, operation_of, definition};
-ghost use Rattle.juniper_tokens.specs.Cursor.{EndsOnce, Gives, first_of, refused_at};
+ghost use Rattle.juniper_tokens.specs.Cursor.{Gives, first_of};
 ghost use Rattle.juniper.specs.device.Builds.{Builds, BuildsOr};
 ghost use Rattle.juniper.specs.View.{view_located, view_definition};
 ghost use Rattle.juniper.specs.Scalars.{stated};
@@ -18,8 +17,8 @@ use crate::tree::ast::Definition;
 use crate::tree::trees::Trees;
 use graphql_grammar::OperationType;
 use juniper_tokens::{
-    Cursor, Feed, Kind, OptionParseResult, ParseFailure, ParseResult, SourcePosition, SourceText,
-    UnlocatedParseResult,
+    Cursor, Feed, Kind, Listed, OptionParseResult, ParseFailure, ParseResult, SourcePosition,
+    SourceText, UnlocatedParseResult,
 };
 use juniper_values::ScalarValue;
 
@@ -31,8 +30,8 @@ pub(crate) fn parse_definition_tree<'a, S: ScalarValue>(
     ensures shorter { OnOk result (length (left tokens.new) < length (left tokens.old)) }
     ensures on { OnOk result (GoesOn tokens.old tokens.new) }
 {
-    let mut trees = Trees::<'a>::new(tokens.allocator());
-    parse_definition_or::<S, Trees<'a>, ParseFailure>(tokens, &mut trees)
+    let mut trees = Trees::<'a, Listed>::new(tokens.allocator());
+    parse_definition_or::<S, Trees<'a, Listed>, ParseFailure>(tokens, &mut trees)
 }
 
 /// `Definition`, with an error of any type that is made of a parser's.

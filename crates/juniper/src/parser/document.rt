@@ -4,20 +4,16 @@ ghost use Rattle.std.specs.Str.{chars};
 ghost use Rattle.juniper_tokens.specs.Errors.{view_fault};
 ghost use Rattle.juniper.specs.View.{view_document};
 ghost use Rattle.juniper.specs.Scalars.{stated};
-ghost use Rattle.graphql_grammar.specs.device.Productions.{document};
-ghost use Rattle.juniper_tokens.specs.Taking.{left};
-ghost use Rattle.juniper.specs.device.Steps.{cursor};
-ghost use Rattle.juniper.specs.Promise.{HasTree, IfRefused, ReturnsAs, IsRefusal};
+ghost use Rattle.juniper.specs.Promise.{HasTree, IfRefused, IsRefusal};
 
 pub(crate) mod depth;
 pub(crate) mod limited;
 pub(crate) mod parts;
 pub(crate) mod sink;
 
-use crate::parser::document::parts::build_definitions_or;
+use crate::parser::document::limited::{LimitFailure, Limits, parse_document_source_limited};
 use crate::tree::ast::OwnedDocument;
-use crate::tree::trees::Trees;
-use juniper_tokens::{Cursor, Lexer, ParseFailure, Parser, UnlocatedParseResult};
+use juniper_tokens::UnlocatedParseResult;
 use juniper_values::ScalarValue;
 use std::alloc::Global;
 
@@ -48,17 +44,14 @@ pub fn parse_document_source<'a, S: ScalarValue>(
     ensures accepted { IfOk result (λ tree. HasTree (stated S.reading S.of_bool) (chars s.now) (view_document S.content tree)) }
     ensures refused { IfRefused result (λ fault. IsRefusal (stated S.reading S.of_bool) (chars s.now) (view_fault fault)) }
 {
-    let mut lexer = Lexer::new(alloc, s);
-    let parser = Parser::new(&mut lexer)?;
-    parse_definitions(&mut parser.cursor())
-}
-
-/// `Definition+`, up to the end, which is left there, as juniper's tree.
-fn parse_definitions<'a, S: ScalarValue>(
-    tokens: &mut Cursor<'_, &'a str>,
-) -> UnlocatedParseResult<OwnedDocument<'a, S>>
-    ensures { ReturnsAs (view_document S.content) result (cursor (stated S.reading S.of_bool) document (left tokens.old)) }
-{
-    let mut trees = Trees::<'a>::new(tokens.allocator());
-    build_definitions_or::<S, Trees<'a>, ParseFailure>(tokens, &mut trees)
+    let limits = Limits {
+        depth: usize::MAX,
+        tokens: usize::MAX,
+    };
+    match parse_document_source_limited(alloc, s, limits) {
+        Ok(tree) => Ok(tree),
+        Err(LimitFailure::Parse(failure)) => Err(failure),
+        Err(LimitFailure::TooDeep(_)) => unreachable!(),
+        Err(LimitFailure::TooMany(_)) => unreachable!(),
+    }
 }

@@ -1,13 +1,11 @@
 //! The next token: it is looked at by `next_is` and `next_is_word`, taken if it is of a kind by `take_if`, and one that
 //! has to be there is taken by `expect`, or by the cursor's `expect_name`.
-ghost use Rattle.std.specs.Prelude.{◌≡◌, ◌<◌, ◌≤◌, length, true, false, Some, None, IfOk, OnOk, if◌then◌else◌};
+ghost use Rattle.std.specs.Prelude.{◌≡◌, ◌<◌, ◌≤◌, length, true, false, Some, None, OnOk, if◌then◌else◌};
 ghost use Rattle.std.specs.Str.{chars};
 ghost use Rattle.graphql_lexical.specs.Kinds.{same_kind};
 ghost use Rattle.graphql_lexical.specs.declared.kind.Kind.TheVariants.{EndOfFile, Name};
-ghost use Rattle.juniper_tokens.specs.Cursor.{EndsOnce, Fails, Gives, first_of, kind_at, next_if, refused_at};
-ghost use Rattle.graphql_lexical.specs.Cutting.{Lexeme};
+ghost use Rattle.juniper_tokens.specs.Cursor.{EndsOnce, first_of, kind_at, next_if};
 ghost use Rattle.graphql_grammar.specs.device.Reading.{passes, word};
-ghost use Rattle.juniper_tokens.specs.Spans.{view_span};
 ghost use Rattle.juniper_tokens.specs.Taking.{left, last_end, GoesOn};
 ghost use Rattle.juniper.specs.device.Steps.{closing_at, GivesNext};
 

@@ -1,6 +1,5 @@
 //! Value literals (GraphQL specification, October 2021, section 2.9).
 ghost use Rattle.std.specs.Prelude.{◌≡◌, ◌<◌, length, false, MatchOption, OnOk, IfOk, not};
-ghost use Rattle.graphql_lexical.specs.Kinds.{same_kind};
 ghost use Rattle.graphql_lexical.specs.declared.kind.Kind.TheVariants.{BracketOpen, BracketClose, CurlyOpen, CurlyClose, Dollar, Name};
 ghost use Rattle.graphql_grammar.specs.device.Reading.{of, symbol, a_value, passes, scalar_token, wants, gives};
 ghost use Rattle.graphql_grammar.specs.device.Productions.{by_name, list, key_and_value, object, variable};
@@ -21,7 +20,8 @@ use crate::parser::next::expect;
 use crate::tree::trees::Trees;
 use juniper_tokens::text::same_text;
 use juniper_tokens::{
-    Cursor, Feed, Kind, ParseFailure, ParseResult, Parser, ScalarToken, SourceText, Spanning,
+    Cursor, Feed, Kind, Listed, ParseFailure, ParseResult, Parser, ScalarToken, SourceText,
+    Spanning,
 };
 use juniper_values::{InputValue, ScalarValue};
 use std::alloc::AllocError;
@@ -62,8 +62,8 @@ fn parse_value_tree<'a, S: ScalarValue>(
     ensures shorter { OnOk result (length (left tokens.new) < length (left tokens.old)) }
     ensures on { GoesOn tokens.old tokens.new }
 {
-    let mut trees = Trees::<'a>::new(tokens.allocator());
-    parse_value_or::<S, Trees<'a>, ParseFailure>(tokens, &mut trees, is_const)
+    let mut trees = Trees::<'a, Listed>::new(tokens.allocator());
+    parse_value_or::<S, Trees<'a, Listed>, ParseFailure>(tokens, &mut trees, is_const)
 }
 
 /// `Value(c)`, with an error of any type that is made of a parser's.

@@ -1,5 +1,5 @@
 //! Definitions of variables (GraphQL specification, October 2021, section 2.10).
-ghost use Rattle.std.specs.Prelude.{◌≡◌, ◌<◌, ◌≤◌, length, OnOk};
+ghost use Rattle.std.specs.Prelude.{◌<◌, ◌≤◌, length, OnOk};
 ghost use Rattle.graphql_grammar.specs.device.Productions.{default, variable_definition, variables_inner, variables, optional_variables};
 ghost use Rattle.juniper_tokens.specs.Taking.{left, GoesOn};
 ghost use Rattle.juniper.specs.Building.{BuildsList, BuildsOptional};

@@ -18,23 +18,25 @@ use crate::tree::ast::{
     Selection, VariableDefinition, VariableDefinitions,
 };
 use graphql_grammar::OperationType;
-use juniper_tokens::{Listed, ParseResult, ScalarToken, Span, Spanning};
+use juniper_tokens::{Feed, ParseResult, ScalarToken, Span, Spanning};
 use juniper_values::{InputValue, ScalarValue, Type};
 use std::alloc::{AllocError, Global};
 use std::marker::PhantomData;
 
 /// Builds juniper's tree, whose names are borrowed from the source.
 #[derive(Drop)]
-pub(crate) struct Trees<'a> {
+pub(crate) struct Trees<'a, M: Feed> {
     alloc: Global,
     source: PhantomData<&'a str>,
+    feed: PhantomData<M>,
 }
 
-impl<'a> Trees<'a> {
+impl<'a, M: Feed> Trees<'a, M> {
     pub(crate) fn new(alloc: Global) -> Self {
         Trees {
             alloc,
             source: PhantomData,
+            feed: PhantomData,
         }
     }
 }
@@ -84,10 +86,10 @@ fn copied_option<'a>(name: &Option<Spanning<&'a str>>) -> Option<Spanning<&'a st
     }
 }
 
-impl<'a, S: ScalarValue> Builder<S> for Trees<'a> {
+impl<'a, M: Feed, S: ScalarValue> Builder<S> for Trees<'a, M> {
     type Name = &'a str;
 
-    type Feed = Listed;
+    type Feed = M;
 
     type Open = ();
 
@@ -228,7 +230,7 @@ impl<'a, S: ScalarValue> Builder<S> for Trees<'a> {
         key: &Spanning<&'a str>,
         value: Spanning<InputValue<S>>,
     ) -> Result<(Spanning<String>, Spanning<InputValue<S>>), AllocError>
-        ensures { IfOk result (λ field. (first opened : Trees) (v : Located (Seen Content)) → Unit {0} → view_value S.content value ≡ v → view_object_field S.content field ≡ (view_word key.now, v)) }
+        ensures { IfOk result (λ field. (first opened : Trees M) (v : Located (Seen Content)) → Unit {0} → view_value S.content value ≡ v → view_object_field S.content field ≡ (view_word key.now, v)) }
     {
         let text = String::from_str(self.alloc, key.item)?;
         Ok((Spanning::new(key.span, text), value))
@@ -246,7 +248,7 @@ impl<'a, S: ScalarValue> Builder<S> for Trees<'a> {
         items: Vec<(Spanning<&'a str>, Spanning<InputValue<S>>)>,
         span: Span,
     ) -> Spanning<Arguments<'a, S>>
-        ensures { (first opened : Trees) (xs : List (tree.Argument Content)) → Unit {0} → ShowsEach (view_argument S.content) opened self.old items.entry xs → view_arguments S.content result ≡ record { item = xs; span = view_span span } }
+        ensures { (first opened : Trees M) (xs : List (tree.Argument Content)) → Unit {0} → ShowsEach (view_argument S.content) opened self.old items.entry xs → view_arguments S.content result ≡ record { item = xs; span = view_span span } }
     {
         Spanning::new(span, Arguments { items })
     }
@@ -263,7 +265,7 @@ impl<'a, S: ScalarValue> Builder<S> for Trees<'a> {
         name: &Spanning<&'a str>,
         value: Spanning<InputValue<S>>,
     ) -> (Spanning<&'a str>, Spanning<InputValue<S>>)
-        ensures { (first opened : Trees) (v : Located (Seen Content)) → Unit {0} → view_value S.content value ≡ v → view_argument S.content result ≡ record { name = view_word name.now; value = v } }
+        ensures { (first opened : Trees M) (v : Located (Seen Content)) → Unit {0} → view_value S.content value ≡ v → view_argument S.content result ≡ record { name = view_word name.now; value = v } }
     {
         (copied(name), value)
     }
@@ -281,7 +283,7 @@ impl<'a, S: ScalarValue> Builder<S> for Trees<'a> {
         arguments: Option<Spanning<Arguments<'a, S>>>,
         span: Span,
     ) -> Spanning<Directive<'a, S>>
-        ensures { (first opened : Trees) (xs : Option (tree.Arguments Content)) → Unit {0} → BuildsOptional (Shows (view_arguments S.content)) opened self.old arguments.entry xs → view_directive S.content result ≡ record { item = record { name = view_word name.now; arguments = xs }; span = view_span span } }
+        ensures { (first opened : Trees M) (xs : Option (tree.Arguments Content)) → Unit {0} → BuildsOptional (Shows (view_arguments S.content)) opened self.old arguments.entry xs → view_directive S.content result ≡ record { item = record { name = view_word name.now; arguments = xs }; span = view_span span } }
     {
         let directive = Directive {
             name: copied(name),
@@ -310,7 +312,7 @@ impl<'a, S: ScalarValue> Builder<S> for Trees<'a> {
         selection_set: Option<Vec<Selection<'a, S>>>,
         span: Span,
     ) -> Selection<'a, S>
-        ensures { (first opened with_arguments with_directives : Trees) (xs : Option (tree.Arguments Content)) (ds : tree.Directives Content) (set : tree.OptionalSelections Content) → Unit {0} → BuildsOptional (Shows (view_arguments S.content)) opened with_arguments arguments.entry xs → ShowsDirectives S.content with_arguments with_directives directives.entry ds → ShowsOptionalSet S.content with_directives self.old selection_set.entry set → view_selection S.content result ≡ tree.Field (option_map view_word alias.now) (view_word name.now) xs ds set (view_span span) }
+        ensures { (first opened with_arguments with_directives : Trees M) (xs : Option (tree.Arguments Content)) (ds : tree.Directives Content) (set : tree.OptionalSelections Content) → Unit {0} → BuildsOptional (Shows (view_arguments S.content)) opened with_arguments arguments.entry xs → ShowsDirectives S.content with_arguments with_directives directives.entry ds → ShowsOptionalSet S.content with_directives self.old selection_set.entry set → view_selection S.content result ≡ tree.Field (option_map view_word alias.now) (view_word name.now) xs ds set (view_span span) }
     {
         let field = Field {
             alias: copied_option(alias),
@@ -335,7 +337,7 @@ impl<'a, S: ScalarValue> Builder<S> for Trees<'a> {
         directives: Option<Vec<Spanning<Directive<'a, S>>>>,
         span: Span,
     ) -> Selection<'a, S>
-        ensures { (first opened : Trees) (ds : tree.Directives Content) → Unit {0} → ShowsDirectives S.content opened self.old directives.entry ds → view_selection S.content result ≡ tree.FragmentSpread (view_word name.now) ds (view_span span) }
+        ensures { (first opened : Trees M) (ds : tree.Directives Content) → Unit {0} → ShowsDirectives S.content opened self.old directives.entry ds → view_selection S.content result ≡ tree.FragmentSpread (view_word name.now) ds (view_span span) }
     {
         let spread = FragmentSpread {
             name: copied(name),
@@ -361,7 +363,7 @@ impl<'a, S: ScalarValue> Builder<S> for Trees<'a> {
         selection_set: Vec<Selection<'a, S>>,
         span: Span,
     ) -> Selection<'a, S>
-        ensures { (first opened with_directives : Trees) (ds : tree.Directives Content) (set : tree.Selections Content) → Unit {0} → ShowsDirectives S.content opened with_directives directives.entry ds → ShowsSet S.content with_directives self.old selection_set.entry set → view_selection S.content result ≡ tree.InlineFragment (option_map view_word type_condition.now) ds set (view_span span) }
+        ensures { (first opened with_directives : Trees M) (ds : tree.Directives Content) (set : tree.Selections Content) → Unit {0} → ShowsDirectives S.content opened with_directives directives.entry ds → ShowsSet S.content with_directives self.old selection_set.entry set → view_selection S.content result ≡ tree.InlineFragment (option_map view_word type_condition.now) ds set (view_span span) }
     {
         let fragment = InlineFragment {
             type_condition: copied_option(type_condition),
@@ -383,7 +385,7 @@ impl<'a, S: ScalarValue> Builder<S> for Trees<'a> {
         items: VariableDefinitions<'a, S>,
         span: Span,
     ) -> Spanning<VariableDefinitions<'a, S>>
-        ensures { (first opened : Trees) (vs : List (tree.VariableDefinition Content)) → Unit {0} → BuildsList (Shows (view_named S.content)) gathered_variables opened self.old items.entry vs → view_variables S.content result ≡ record { item = vs; span = view_span span } }
+        ensures { (first opened : Trees M) (vs : List (tree.VariableDefinition Content)) → Unit {0} → BuildsList (Shows (view_named S.content)) gathered_variables opened self.old items.entry vs → view_variables S.content result ≡ record { item = vs; span = view_span span } }
     {
         Spanning::new(span, items)
     }
@@ -406,7 +408,7 @@ impl<'a, S: ScalarValue> Builder<S> for Trees<'a> {
         default_value: Option<Spanning<InputValue<S>>>,
         directives: Option<Vec<Spanning<Directive<'a, S>>>>,
     ) -> NamedVariable<'a, S>
-        ensures { (first opened with_default : Trees) (v : Option (Located (Seen Content))) (ds : tree.Directives Content) → Unit {0} → BuildsOptional (Shows (view_value S.content)) opened with_default default_value v → ShowsDirectives S.content with_default self.old directives.entry ds → view_named S.content result ≡ record { name = view_word name.now; of_type = view_spanned_type var_type.entry; default = v; directives = ds } }
+        ensures { (first opened with_default : Trees M) (v : Option (Located (Seen Content))) (ds : tree.Directives Content) → Unit {0} → BuildsOptional (Shows (view_value S.content)) opened with_default default_value v → ShowsDirectives S.content with_default self.old directives.entry ds → view_named S.content result ≡ record { name = view_word name.now; of_type = view_spanned_type var_type.entry; default = v; directives = ds } }
     {
         NamedVariable {
             name: copied(name),
@@ -438,7 +440,7 @@ impl<'a, S: ScalarValue> Builder<S> for Trees<'a> {
         selection_set: Vec<Selection<'a, S>>,
         span: Span,
     ) -> Definition<'a, S>
-        ensures { (first opened with_variables with_directives : Trees) (vs : Option (tree.Variables Content)) (ds : tree.Directives Content) (set : tree.Selections Content) → Unit {0} → BuildsOptional (Shows (view_variables S.content)) opened with_variables variable_definitions.entry vs → ShowsDirectives S.content with_variables with_directives directives.entry ds → ShowsSet S.content with_directives self.old selection_set.entry set → view_definition S.content result ≡ tree.Operation operation_type (option_map view_word name.now) vs ds set (view_span span) }
+        ensures { (first opened with_variables with_directives : Trees M) (vs : Option (tree.Variables Content)) (ds : tree.Directives Content) (set : tree.Selections Content) → Unit {0} → BuildsOptional (Shows (view_variables S.content)) opened with_variables variable_definitions.entry vs → ShowsDirectives S.content with_variables with_directives directives.entry ds → ShowsSet S.content with_directives self.old selection_set.entry set → view_definition S.content result ≡ tree.Operation operation_type (option_map view_word name.now) vs ds set (view_span span) }
     {
         let operation = Operation {
             operation_type,
@@ -469,7 +471,7 @@ impl<'a, S: ScalarValue> Builder<S> for Trees<'a> {
         selection_set: Vec<Selection<'a, S>>,
         span: Span,
     ) -> Definition<'a, S>
-        ensures { (first opened with_directives : Trees) (ds : tree.Directives Content) (set : tree.Selections Content) → Unit {0} → ShowsDirectives S.content opened with_directives directives.entry ds → ShowsSet S.content with_directives self.old selection_set.entry set → view_definition S.content result ≡ tree.Fragment (view_word name.now) (view_word type_condition.now) ds set (view_span span) }
+        ensures { (first opened with_directives : Trees M) (ds : tree.Directives Content) (set : tree.Selections Content) → Unit {0} → ShowsDirectives S.content opened with_directives directives.entry ds → ShowsSet S.content with_directives self.old selection_set.entry set → view_definition S.content result ≡ tree.Fragment (view_word name.now) (view_word type_condition.now) ds set (view_span span) }
     {
         let fragment = Fragment {
             name: copied(name),

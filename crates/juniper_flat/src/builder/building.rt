@@ -1,19 +1,20 @@
-//! How the parts of a document become nodes.
-ghost use Rattle.std.specs.Prelude.{◌≡◌, Option, option_map};
-ghost use Rattle.graphql_nodes.specs.Nodes.{operation_kind};
-ghost use Rattle.juniper.specs.View.{view_spanned_type, view_word};
-ghost use Rattle.juniper_tokens.specs.Spans.{view_span};
-ghost use Rattle.juniper_nodes.specs.NodeViews.{TellsName};
-ghost use Rattle.juniper_flat.specs.declared.builder.NodeBuilder.{NodeBuilder as Writer};
-ghost use Rattle.juniper_flat.specs.Builders.{Adds, Opens, AddsArguments, AddsDirectives, AddsOptionalSet, AddsSet, AddsValue, AddsVariables};
+//! How the parts of a document become nodes, and which of them an outliner gathers.
+ghost use Rattle.std.specs.Prelude.{◌≡◌, [], Option, option_map};
 ghost use Rattle.graphql_grammar.specs.Tokens.{Located};
 ghost use Rattle.graphql_grammar.specs.Tree as tree;
 ghost use Rattle.graphql_grammar.specs.Tree.{Value as Seen};
-ghost use Rattle.graphql_nodes.specs.Nodes.{directive_nodes, selection_nodes, variable_nodes, definition_nodes};
-ghost use Rattle.juniper_values.specs.Scalar.{Content};
+ghost use Rattle.graphql_nodes.specs.Nodes.{operation_kind, directive_nodes};
 ghost use Rattle.juniper.specs.Building.{a_directive, a_field, a_spread, an_inline_fragment, a_variable, an_operation, a_fragment};
+ghost use Rattle.juniper.specs.View.{view_spanned_type, view_word};
+ghost use Rattle.juniper_nodes.specs.NodeViews.{TellsName};
+ghost use Rattle.juniper_tokens.specs.Spans.{view_span};
+ghost use Rattle.juniper_values.specs.Scalar.{Content};
+ghost use Rattle.juniper_flat.specs.Buildings.{OpensPart, AddsArguments, AddsDefinition, AddsDirectives, AddsOptionalSet, AddsSelection, AddsSet, AddsValue, AddsVariable, AddsVariables};
+ghost use Rattle.juniper_flat.specs.Builders.{Adds, counted};
+ghost use Rattle.juniper_flat.specs.declared.builder.building.Building.{Building as State};
 
 use crate::builder::NodeBuilder;
+use crate::builder::outliner::{Outliner, VariableOutliner};
 use crate::form::form_of;
 use crate::scalar::SourceScalar;
 use juniper::{
@@ -22,6 +23,7 @@ use juniper::{
 use juniper_complexity::PartCount;
 use juniper_nodes::{Label, NodeKind};
 use std::alloc::{AllocError, Global};
+use std::marker::PhantomData;
 
 // The label of a part that may have a name.
 #[inline(always)]
@@ -44,15 +46,45 @@ fn operation_kind(operation_type: OperationType) -> NodeKind
     }
 }
 
-impl<'b> Builder<SourceScalar> for NodeBuilder<'b> {
-    ghost use Rattle.graphql_nodes.specs.Nodes.{value_nodes, argument_nodes, arguments_nodes, directive_nodes, selection_nodes, variable_nodes, variables_nodes, definition_nodes};
-    ghost use Rattle.juniper_flat.specs.Builders.{Adds, Opens, field_nodes};
+/// A part that is opened: the index of its node, and the number of fields around it.
+#[derive(Clone, Copy)]
+pub(crate) struct Part {
+    node: usize,
+    around: u64,
+}
+
+/// Writes the nodes of a document, and reports its parts to an outliner. The mark of a definition is its node's index.
+#[derive(Drop)]
+pub(crate) struct Building<'n, 'b, O: Drop> {
+    pub nodes: NodeBuilder<'n>,
+    pub outlines: O,
+    // The source's names are borrowed for longer than the buffers.
+    pub names: PhantomData<&'b str>,
+}
+
+impl<O: Drop> Building<'_, '_, O> {
+    // Opens a part that isn't a field. The outliner isn't changed.
+    #[inline(always)]
+    fn open(&mut self) -> Part
+        ensures index { result.node ≡ self.old.nodes.nodes_length }
+        ensures adds { Adds (counted self.old.nodes) self.new.nodes [] }
+        ensures kept { self.old.outlines ≡ self.new.outlines }
+    {
+        let node = self.nodes.open();
+        Part { node, around: 0 }
+    }
+}
+
+impl<'b, O: Outliner<'b>> Builder<SourceScalar> for Building<'_, 'b, O> {
+    ghost use Rattle.graphql_nodes.specs.Nodes.{value_nodes, argument_nodes, arguments_nodes, directive_nodes};
+    ghost use Rattle.juniper_flat.specs.Buildings.{OpensPart, AddsPart, AddsVariable, AddsVariableList, AddsSelection, AddsDefinition};
+    ghost use Rattle.juniper_flat.specs.Builders.{field_nodes};
 
     type Name = &'b str;
 
     type Feed = Streamed;
 
-    type Open = usize;
+    type Open = Part;
 
     type Value = ();
 
@@ -82,43 +114,44 @@ impl<'b> Builder<SourceScalar> for NodeBuilder<'b> {
 
     type Variables = ();
 
-    type Definition = ();
+    type Definition = O::Definition;
 
-    type Definitions = PartCount;
+    type Definitions = O::Definitions;
 
-    ghost opens = { Opens };
+    ghost opens = { OpensPart O.enters O.spreads O.begins };
 
-    ghost builds_value = { λ old new x v. Adds old new (value_nodes v) };
+    ghost builds_value = { AddsPart value_nodes };
 
-    ghost builds_field = { λ old new x f. Adds old new (field_nodes f) };
+    ghost builds_field = { AddsPart field_nodes };
 
-    ghost builds_argument = { λ old new x a. Adds old new (argument_nodes a) };
+    ghost builds_argument = { AddsPart argument_nodes };
 
-    ghost builds_arguments = { λ old new x a. Adds old new (arguments_nodes a) };
+    ghost builds_arguments = { AddsPart arguments_nodes };
 
-    ghost builds_directive = { λ old new x d. Adds old new (directive_nodes d) };
+    ghost builds_directive = { AddsPart directive_nodes };
 
-    ghost builds_selection = { λ old new x s. Adds old new (selection_nodes s) };
+    ghost builds_selection = { AddsSelection O.gathers_selection };
 
-    ghost builds_variable = { λ old new x v. Adds old new (variable_nodes v) };
+    ghost builds_variable = { AddsVariable O.gathers_variable };
 
-    ghost builds_variables = { λ old new x v. Adds old new (variables_nodes v) };
+    ghost builds_variables = { AddsVariableList O.gathers_variable };
 
-    ghost builds_definition = { λ old new x d. Adds old new (definition_nodes d) };
+    ghost builds_definition = { AddsDefinition O.outlines };
 
     #[inline(always)]
     fn null(&mut self, span: Span) -> Result<(), AllocError> {
-        let part = self.open();
-        self.close_unnamed(part, NodeKind::Null, &span);
+        let part = self.nodes.open();
+        self.nodes.close_unnamed(part, NodeKind::Null, &span);
         Ok(())
     }
 
     #[inline(always)]
     fn scalar(&mut self, scalar: SourceScalar, span: Span) -> Result<(), AllocError> {
-        let at = self.texts_length;
-        self.push_scalar(&scalar);
+        let at = self.nodes.texts_length;
+        self.nodes.push_scalar(&scalar);
         let form = form_of(&scalar);
-        self.push_with_text(NodeKind::Scalar, &span, Label::Unnamed, Some(&form), at);
+        self.nodes
+            .push_with_text(NodeKind::Scalar, &span, Label::Unnamed, Some(&form), at);
         Ok(())
     }
 
@@ -129,10 +162,11 @@ impl<'b> Builder<SourceScalar> for NodeBuilder<'b> {
         token: ScalarToken<'_>,
         span: Span,
     ) -> Result<(), ParseFailure> {
-        let at = self.texts_length;
-        match self.push_token(alloc, token) {
+        let at = self.nodes.texts_length;
+        match self.nodes.push_token(alloc, token) {
             Ok(form) => {
-                self.push_with_text(NodeKind::Scalar, &span, Label::Unnamed, Some(&form), at);
+                self.nodes
+                    .push_with_text(NodeKind::Scalar, &span, Label::Unnamed, Some(&form), at);
                 Ok(())
             }
             Err(failure) => Err(unread(failure, span)),
@@ -141,88 +175,86 @@ impl<'b> Builder<SourceScalar> for NodeBuilder<'b> {
 
     #[inline(always)]
     fn enum_value(&mut self, name: &'b str, span: Span) -> Result<(), AllocError> {
-        self.push(NodeKind::Enum, &span, Label::Text(name));
+        self.nodes.push(NodeKind::Enum, &span, Label::Text(name));
         Ok(())
     }
 
     #[inline(always)]
     fn variable(&mut self, name: &'b str, span: Span) -> Result<(), AllocError> {
-        self.push(NodeKind::Reference, &span, Label::Text(name));
+        self.nodes
+            .push(NodeKind::Reference, &span, Label::Text(name));
         Ok(())
     }
 
     #[inline(always)]
-    fn open_list(&mut self) -> Result<usize, AllocError> {
+    fn open_list(&mut self) -> Result<Part, AllocError> {
         Ok(self.open())
     }
 
     #[inline(always)]
-    fn list(&mut self, part: usize, items: PartCount, span: Span) {
-        self.close_unnamed(part, NodeKind::List, &span);
+    fn list(&mut self, part: Part, items: PartCount, span: Span) {
+        self.nodes.close_unnamed(part.node, NodeKind::List, &span);
     }
 
     #[inline(always)]
-    fn open_object(&mut self) -> Result<usize, AllocError> {
+    fn open_object(&mut self) -> Result<Part, AllocError> {
         Ok(self.open())
     }
 
     #[inline(always)]
-    fn object(&mut self, part: usize, fields: PartCount, span: Span) {
-        self.close_unnamed(part, NodeKind::Object, &span);
+    fn object(&mut self, part: Part, fields: PartCount, span: Span) {
+        self.nodes.close_unnamed(part.node, NodeKind::Object, &span);
     }
 
     #[inline(always)]
-    fn open_object_field(&mut self, key: &Spanning<&'b str>) -> Result<usize, AllocError> {
+    fn open_object_field(&mut self, key: &Spanning<&'b str>) -> Result<Part, AllocError> {
         Ok(self.open())
     }
 
     #[inline(always)]
     fn object_field(
         &mut self,
-        part: usize,
+        part: Part,
         key: &Spanning<&'b str>,
         value: (),
     ) -> Result<(), AllocError> {
-        self.close(part, NodeKind::Key, &key.span, Label::Name(key));
+        self.nodes
+            .close(part.node, NodeKind::Key, &key.span, Label::Name(key));
         Ok(())
     }
 
     #[inline(always)]
-    fn open_arguments(&mut self) -> Result<usize, AllocError> {
+    fn open_arguments(&mut self) -> Result<Part, AllocError> {
         Ok(self.open())
     }
 
     #[inline(always)]
-    fn arguments(&mut self, part: usize, items: PartCount, span: Span) {
-        self.close_unnamed(part, NodeKind::Arguments, &span);
+    fn arguments(&mut self, part: Part, items: PartCount, span: Span) {
+        self.nodes
+            .close_unnamed(part.node, NodeKind::Arguments, &span);
     }
 
     #[inline(always)]
-    fn open_argument(&mut self, name: &Spanning<&'b str>) -> Result<usize, AllocError> {
+    fn open_argument(&mut self, name: &Spanning<&'b str>) -> Result<Part, AllocError> {
         Ok(self.open())
     }
 
     #[inline(always)]
-    fn argument(&mut self, part: usize, name: &Spanning<&'b str>, value: ()) {
-        self.close(part, NodeKind::Argument, &name.span, Label::Name(name));
+    fn argument(&mut self, part: Part, name: &Spanning<&'b str>, value: ()) {
+        self.nodes.close(part.node, NodeKind::Argument, &name.span, Label::Name(name));
     }
 
     #[inline(always)]
-    fn open_directive(&mut self, name: &Spanning<&'b str>) -> Result<usize, AllocError> {
+    fn open_directive(&mut self, name: &Spanning<&'b str>) -> Result<Part, AllocError> {
         Ok(self.open())
     }
 
     #[inline(always)]
-    fn directive(
-        &mut self,
-        part: usize,
-        name: &Spanning<&'b str>,
-        arguments: Option<()>,
-        span: Span,
-    )
-        ensures { (first opened : Writer) (xs : Option (tree.Arguments Content)) → Opens first opened part (a_directive (view_word name.now)) → AddsArguments opened self.old arguments xs → Adds first self.new (directive_nodes (record { item = record { name = view_word name.now; arguments = xs }; span = view_span span })) }
+    fn directive(&mut self, part: Part, name: &Spanning<&'b str>, arguments: Option<()>, span: Span)
+        ensures { (first opened : State O) (xs : Option (tree.Arguments Content)) → OpensPart O.enters O.spreads O.begins first opened part (a_directive (view_word name.now)) → AddsArguments opened self.old arguments xs → Adds first.nodes self.new.nodes (directive_nodes (record { item = record { name = view_word name.now; arguments = xs }; span = view_span span })) × (first.outlines ≡ self.new.outlines) }
     {
-        self.close(part, NodeKind::Directive, &span, Label::Name(name));
+        self.nodes
+            .close(part.node, NodeKind::Directive, &span, Label::Name(name));
     }
 
     #[inline(always)]
@@ -230,18 +262,17 @@ impl<'b> Builder<SourceScalar> for NodeBuilder<'b> {
         &mut self,
         alias: &Option<Spanning<&'b str>>,
         name: &Spanning<&'b str>,
-    ) -> Result<usize, AllocError> {
-        let part = self.open();
-        if let Some(alias) = alias {
-            self.push(NodeKind::Alias, &alias.span, Label::Name(alias));
-        }
-        Ok(part)
+    ) -> Result<Part, AllocError> {
+        let node = self.nodes.open();
+        self.nodes.push_alias(alias);
+        let around = self.outlines.enter_field(alias);
+        Ok(Part { node, around })
     }
 
     #[inline(always)]
     fn field(
         &mut self,
-        part: usize,
+        part: Part,
         alias: &Option<Spanning<&'b str>>,
         name: &Spanning<&'b str>,
         arguments: Option<()>,
@@ -249,59 +280,67 @@ impl<'b> Builder<SourceScalar> for NodeBuilder<'b> {
         selection_set: Option<PartCount>,
         span: Span,
     )
-        ensures { (first opened with_arguments with_directives : Writer) (xs : Option (tree.Arguments Content)) (ds : tree.Directives Content) (set : tree.OptionalSelections Content) → Opens first opened part (a_field (option_map view_word alias.now) (view_word name.now)) → AddsArguments opened with_arguments arguments xs → AddsDirectives with_arguments with_directives directives ds → AddsOptionalSet with_directives self.old selection_set set → Adds first self.new (selection_nodes (tree.Field (option_map view_word alias.now) (view_word name.now) xs ds set (view_span span))) }
+        ensures { (first opened with_arguments with_directives : State O) (xs : Option (tree.Arguments Content)) (ds : tree.Directives Content) (set : tree.OptionalSelections Content) → OpensPart O.enters O.spreads O.begins first opened part (a_field (option_map view_word alias.now) (view_word name.now)) → AddsArguments opened with_arguments arguments xs → AddsDirectives with_arguments with_directives directives ds → AddsOptionalSet O.gathers_selection with_directives self.old selection_set set → AddsSelection O.gathers_selection first self.new tt (tree.Field (option_map view_word alias.now) (view_word name.now) xs ds set (view_span span)) }
     {
-        self.close(part, NodeKind::Field, &span, Label::Name(name));
+        self.nodes
+            .close(part.node, NodeKind::Field, &span, Label::Name(name));
+        self.outlines.leave_field(part.around, &directives);
     }
 
     #[inline(always)]
-    fn open_fragment_spread(&mut self, name: &Spanning<&'b str>) -> Result<usize, AllocError> {
-        Ok(self.open())
+    fn open_fragment_spread(&mut self, name: &Spanning<&'b str>) -> Result<Part, AllocError> {
+        let part = self.open();
+        self.outlines.begin_spread(name)?;
+        Ok(part)
     }
 
     #[inline(always)]
     fn fragment_spread(
         &mut self,
-        part: usize,
+        part: Part,
         name: &Spanning<&'b str>,
         directives: Option<PartCount>,
         span: Span,
     )
-        ensures { (first opened : Writer) (ds : tree.Directives Content) → Opens first opened part (a_spread (view_word name.now)) → AddsDirectives opened self.old directives ds → Adds first self.new (selection_nodes (tree.FragmentSpread (view_word name.now) ds (view_span span))) }
+        ensures { (first opened : State O) (ds : tree.Directives Content) → OpensPart O.enters O.spreads O.begins first opened part (a_spread (view_word name.now)) → AddsDirectives opened self.old directives ds → AddsSelection O.gathers_selection first self.new tt (tree.FragmentSpread (view_word name.now) ds (view_span span)) }
     {
-        self.close(part, NodeKind::Spread, &span, Label::Name(name));
+        self.outlines.end_spread(&directives, &span);
+        self.nodes
+            .close(part.node, NodeKind::Spread, &span, Label::Name(name));
     }
 
     #[inline(always)]
     fn open_inline_fragment(
         &mut self,
         type_condition: &Option<Spanning<&'b str>>,
-    ) -> Result<usize, AllocError> {
+    ) -> Result<Part, AllocError> {
         Ok(self.open())
     }
 
     #[inline(always)]
     fn inline_fragment(
         &mut self,
-        part: usize,
+        part: Part,
         type_condition: &Option<Spanning<&'b str>>,
         directives: Option<PartCount>,
         selection_set: PartCount,
         span: Span,
     )
-        ensures { (first opened with_directives : Writer) (ds : tree.Directives Content) (set : tree.Selections Content) → Opens first opened part (an_inline_fragment (option_map view_word type_condition.now)) → AddsDirectives opened with_directives directives ds → AddsSet with_directives self.old selection_set set → Adds first self.new (selection_nodes (tree.InlineFragment (option_map view_word type_condition.now) ds set (view_span span))) }
+        ensures { (first opened with_directives : State O) (ds : tree.Directives Content) (set : tree.Selections Content) → OpensPart O.enters O.spreads O.begins first opened part (an_inline_fragment (option_map view_word type_condition.now)) → AddsDirectives opened with_directives directives ds → AddsSet O.gathers_selection with_directives self.old selection_set set → AddsSelection O.gathers_selection first self.new tt (tree.InlineFragment (option_map view_word type_condition.now) ds set (view_span span)) }
     {
-        self.close(part, NodeKind::Inline, &span, label_of(type_condition));
+        self.nodes.close(part.node, NodeKind::Inline, &span, label_of(type_condition));
+        self.outlines.end_inline_fragment(&directives);
     }
 
     #[inline(always)]
-    fn open_variables(&mut self) -> Result<usize, AllocError> {
+    fn open_variables(&mut self) -> Result<Part, AllocError> {
         Ok(self.open())
     }
 
     #[inline(always)]
-    fn variables(&mut self, part: usize, items: PartCount, span: Span) {
-        self.close_unnamed(part, NodeKind::Variables, &span);
+    fn variables(&mut self, part: Part, items: PartCount, span: Span) {
+        self.nodes
+            .close_unnamed(part.node, NodeKind::Variables, &span);
     }
 
     #[inline(always)]
@@ -309,11 +348,11 @@ impl<'b> Builder<SourceScalar> for NodeBuilder<'b> {
         &mut self,
         name: &Spanning<&'b str>,
         var_type: &Spanning<Type<&'b str>>,
-    ) -> Result<usize, AllocError> {
+    ) -> Result<Part, AllocError> {
         let part = self.open();
-        let at = self.texts_length;
-        self.push_type(&var_type.item)?;
-        self.push_with_text(
+        let at = self.nodes.texts_length;
+        self.nodes.push_type(&var_type.item)?;
+        self.nodes.push_with_text(
             NodeKind::Type,
             &var_type.span,
             Label::Type(&var_type.item),
@@ -326,15 +365,16 @@ impl<'b> Builder<SourceScalar> for NodeBuilder<'b> {
     #[inline(always)]
     fn variable_definition(
         &mut self,
-        part: usize,
+        part: Part,
         name: &Spanning<&'b str>,
         var_type: Spanning<Type<&'b str>>,
         default_value: Option<()>,
         directives: Option<PartCount>,
     )
-        ensures { (first opened with_default : Writer) (v : Option (Located (Seen Content))) (ds : tree.Directives Content) → Opens first opened part (a_variable (view_word name.now) (view_spanned_type var_type.entry)) → AddsValue opened with_default default_value v → AddsDirectives with_default self.old directives ds → Adds first self.new (variable_nodes (record { name = view_word name.now; of_type = view_spanned_type var_type.entry; default = v; directives = ds })) }
+        ensures { (first opened with_default : State O) (v : Option (Located (Seen Content))) (ds : tree.Directives Content) → OpensPart O.enters O.spreads O.begins first opened part (a_variable (view_word name.now) (view_spanned_type var_type.entry)) → AddsValue opened with_default default_value v → AddsDirectives with_default self.old directives ds → AddsVariable O.gathers_variable first self.new tt (record { name = view_word name.now; of_type = view_spanned_type var_type.entry; default = v; directives = ds }) }
     {
-        self.close(part, NodeKind::Variable, &name.span, Label::Name(name));
+        self.nodes.close(part.node, NodeKind::Variable, &name.span, Label::Name(name));
+        self.outlines.end_variable(&directives);
     }
 
     #[inline(always)]
@@ -342,24 +382,32 @@ impl<'b> Builder<SourceScalar> for NodeBuilder<'b> {
         &mut self,
         operation_type: OperationType,
         name: &Option<Spanning<&'b str>>,
-    ) -> Result<usize, AllocError> {
-        Ok(self.open())
+    ) -> Result<Part, AllocError> {
+        let part = self.open();
+        self.outlines.begin();
+        Ok(part)
     }
 
     #[inline(always)]
     fn operation(
         &mut self,
-        part: usize,
+        part: Part,
         operation_type: OperationType,
         name: &Option<Spanning<&'b str>>,
         variable_definitions: Option<()>,
         directives: Option<PartCount>,
         selection_set: PartCount,
         span: Span,
-    )
-        ensures { (first opened with_variables with_directives : Writer) (vs : Option (tree.Variables Content)) (ds : tree.Directives Content) (set : tree.Selections Content) → Opens first opened part (an_operation operation_type (option_map view_word name.now)) → AddsVariables opened with_variables variable_definitions vs → AddsDirectives with_variables with_directives directives ds → AddsSet with_directives self.old selection_set set → Adds first self.new (definition_nodes (tree.Operation operation_type (option_map view_word name.now) vs ds set (view_span span))) }
+    ) -> O::Definition
+        ensures { (first opened with_variables with_directives : State O) (vs : Option (tree.Variables Content)) (ds : tree.Directives Content) (set : tree.Selections Content) → OpensPart O.enters O.spreads O.begins first opened part (an_operation operation_type (option_map view_word name.now)) → AddsVariables O.gathers_variable opened with_variables variable_definitions vs → AddsDirectives with_variables with_directives directives ds → AddsSet O.gathers_selection with_directives self.old selection_set set → AddsDefinition O.outlines first self.new result (tree.Operation operation_type (option_map view_word name.now) vs ds set (view_span span)) }
     {
-        self.close(part, operation_kind(operation_type), &span, label_of(name));
+        self.nodes.close(
+            part.node,
+            operation_kind(operation_type),
+            &span,
+            label_of(name),
+        );
+        self.outlines.end_operation(&directives, part.node)
     }
 
     #[inline(always)]
@@ -367,27 +415,30 @@ impl<'b> Builder<SourceScalar> for NodeBuilder<'b> {
         &mut self,
         name: &Spanning<&'b str>,
         type_condition: &Spanning<&'b str>,
-    ) -> Result<usize, AllocError> {
-        Ok(self.open())
+    ) -> Result<Part, AllocError> {
+        let part = self.open();
+        self.outlines.begin();
+        Ok(part)
     }
 
     #[inline(always)]
     fn fragment(
         &mut self,
-        part: usize,
+        part: Part,
         name: &Spanning<&'b str>,
         type_condition: &Spanning<&'b str>,
         directives: Option<PartCount>,
         selection_set: PartCount,
         span: Span,
-    )
-        ensures { (first opened with_directives : Writer) (ds : tree.Directives Content) (set : tree.Selections Content) → Opens first opened part (a_fragment (view_word name.now) (view_word type_condition.now)) → AddsDirectives opened with_directives directives ds → AddsSet with_directives self.old selection_set set → Adds first self.new (definition_nodes (tree.Fragment (view_word name.now) (view_word type_condition.now) ds set (view_span span))) }
+    ) -> O::Definition
+        ensures { (first opened with_directives : State O) (ds : tree.Directives Content) (set : tree.Selections Content) → OpensPart O.enters O.spreads O.begins first opened part (a_fragment (view_word name.now) (view_word type_condition.now)) → AddsDirectives opened with_directives directives ds → AddsSet O.gathers_selection with_directives self.old selection_set set → AddsDefinition O.outlines first self.new result (tree.Fragment (view_word name.now) (view_word type_condition.now) ds set (view_span span)) }
     {
-        self.close(
-            part,
+        self.nodes.close(
+            part.node,
             NodeKind::Fragment,
             &span,
             Label::Fragment(name, type_condition),
         );
+        self.outlines.end_fragment(name, &directives, part.node)
     }
 }

@@ -9,7 +9,8 @@ use Rattle.juniper_tokens.specs.Cursor.{EndsOnce, first_of}
 use Rattle.juniper_tokens.specs.Taking.{Taking, left, last_end}
 use Rattle.juniper_tokens.specs.device.Ranges.{range_lexeme, range_lexemes, IsRange, StandsOn}
 use Rattle.graphql_lexical.specs.device.Streams.{Tokens}
-use Rattle.juniper_tokens.specs.device.Streams.{StreamState, streamed, with_next}
+use Rattle.juniper_tokens.specs.device.BytePlaces.{BytePlace}
+use Rattle.juniper_tokens.specs.device.Streams.{StreamState, Standing, standing, streamed, with_next}
 
 -- tokens of which so many were taken
 abbrev pub taking_of : Tokens → ℕ → Taking
@@ -35,19 +36,20 @@ pub record GoesOnStream (source : List ℕ) (s : StreamState) (taken : ℕ) (nex
   pub fits : s.most < 2 ^ 64
 
 -- The next token is this range, which begins at this position, and the last one ended at the other.
-pub record StandsBefore (source : List ℕ) (t : Taking) (next : Placed) (last : Place) : Type 0 where
+pub record StandsBefore (source : List ℕ) (t : Taking) (next : Standing) (last : Place) : Type 0 where
   pub is_range : IsRange source next.range
   pub first_is : first_of (left t) ≡ range_lexeme source next.range
   pub ended : EndsOnce (left t)
   pub start_is : next.start ≡ place source next.range.start.characters
   pub last_is : 0 < t.taken → last ≡ last_end t
 
-pub record StandsOnStream (source : List ℕ) (s : StreamState) (taken : ℕ) (next : Placed) (last : Place) : Type 0 where
-  pub stands : StandsBefore source (taking_of (streamed source s.depth s.most) taken) next last
-  pub goes_on : GoesOnStream source s taken next.range
+pub record StandsOnStream (source : List ℕ) (s : StreamState) (taken : ℕ) (next : Standing) (last : Place) : Type 0
+  where
+    pub stands : StandsBefore source (taking_of (streamed source s.depth s.most) taken) next last
+    pub goes_on : GoesOnStream source s taken next.range
 
 -- where a cursor over the characters of a source stands, which reads a stream or has records
-abbrev pub StandsAt : List ℕ → Bool → TokenRecords → StreamState → ℕ → Placed → Place → Type 0
-StandsAt source true records s taken next last = StandsOnStream source s taken next last
+abbrev pub StandsAt : List ℕ → Bool → TokenRecords → StreamState → ℕ → Placed → BytePlace → Type 0
+StandsAt source true records s taken next last = StandsOnStream source s taken (standing s next) last.place
 StandsAt source false records s taken next last = StandsOn source records.ranges.now records.starts.now taken
     records.lines

@@ -1,10 +1,10 @@
 -- A device: where the loops over bytes stop.
-use Rattle.std.specs.Prelude.{◌≡◌, ℕ, ◌==◌, ◌+◌, Bool, false, not, ◌&&◌, if◌then◌else◌, Option, Some, None, is_some, List, [], ◌∷◌, get_or, take, drop}
-use Rattle.std.specs.List.{fold}
+use Rattle.std.specs.Prelude.{◌≡◌, ℕ, ◌==◌, ◌+◌, Bool, true, false, not, ◌&&◌, if◌then◌else◌, Option, Some, None, is_some, List, [], ◌∷◌, get_or, drop}
 use lib.Utf8.{encodes}
 use Rattle.graphql_lexical.specs.Characters.{is_source, is_name_character, is_digit, is_plain, is_comment_character}
 use Rattle.graphql_lexical.specs.device.Machines.{reach}
-use Rattle.graphql_lexical.specs.Place.{Place, past_character}
+use Rattle.std.specs.Str.{chars}
+use Rattle.graphql_lexical.specs.Place.{Place, past_character, next_line}
 use Rattle.graphql_lexical.specs.declared.state.State.{State}
 use Rattle.graphql_lexical.specs.declared.state.State.TheVariants.{Start, Zero}
 use Rattle.graphql_lexical.specs.device.Scan.{ignored_size, step}
@@ -12,8 +12,14 @@ use Rattle.juniper_tokens.specs.declared.lexer.run.Run.{Run}
 use Rattle.juniper_tokens.specs.declared.lexer.run.Run.TheVariants as run
 use Rattle.juniper_tokens.specs.declared.lexer.text.Offset.{Offset}
 use Rattle.juniper_tokens.specs.declared.byte_classes.ByteClass.{ByteClass}
+use Rattle.juniper_tokens.specs.declared.byte_classes.ByteClass.TheVariants.{White, LineFeed, Hash, Quote, Dot, Minus}
+use Rattle.juniper_tokens.specs.declared.byte_classes.ByteClass.TheVariants.{NameStart, Digit, Punctuator, Control}
+use Rattle.juniper_tokens.specs.declared.byte_classes.ByteClass.TheVariants.{Other, Inner, Lead}
 use Rattle.juniper_tokens.specs.ByteClasses.{class_of}
-use Rattle.juniper_tokens.specs.device.ByteRuns.{byte_at, byte_step, with_value, count_one, on, Walked}
+use Rattle.juniper_tokens.specs.Positions.{columns_on}
+use Rattle.juniper_tokens.specs.device.BytePlaces.{BytePlace}
+use Rattle.juniper_tokens.specs.device.LexingByScan.{IsPlaced}
+use Rattle.juniper_tokens.specs.device.ByteRuns.{byte_step, with_value, count_one, on, Walked}
 
 -- the kind of a run
 abbrev pub run_test : Run → ℕ → Bool
@@ -50,7 +56,11 @@ WalkedToken bytes i q n = Walked token_machine (Start, 0) bytes i (q, n)
 
 -- From this state the steps of a token go over this many bytes and characters, and stay.
 abbrev pub StaysOver : State → List ℕ → Offset → Type 0
-StaysOver q bytes b = (n : ℕ) → reach token_machine (q, n) bytes ≡ on b.bytes (reach token_machine (q, n + b.characters) (drop b.bytes bytes))
+StaysOver q bytes b = (n : ℕ) → reach token_machine (q, n) bytes ≡ on b.bytes (reach token_machine (
+  q,
+  n +
+      b.characters,
+) (drop b.bytes bytes))
 
 -- this many characters, counted
 abbrev pub count_to : ℕ → ℕ → ℕ → Option ℕ
@@ -76,8 +86,38 @@ is_in_float (c ∷ cs) = is_some (step Zero c)
 abbrev pub first_class : List ℕ → ByteClass
 first_class cs = class_of (get_or (encodes cs) 0 0)
 
--- the byte at which ignored tokens end, its place, and its class
-pub record EndsIgnored (cs : List ℕ) (start : Place) (bytes : ℕ) (position : Place) (class : ByteClass) : Type 0 where
-  pub bytes_is : bytes ≡ byte_at (ignored_size cs) cs
-  pub position_is : position ≡ fold past_character start (take (ignored_size cs) cs)
-  pub class_is : class ≡ first_class (drop (ignored_size cs) cs)
+-- no ignored token begins with a byte of this class
+abbrev pub never_ignored : ByteClass → Bool
+never_ignored White = false
+never_ignored LineFeed = false
+never_ignored Hash = false
+never_ignored Lead = false
+never_ignored Quote = true
+never_ignored Dot = true
+never_ignored Minus = true
+never_ignored NameStart = true
+never_ignored Digit = true
+never_ignored Punctuator = true
+never_ignored Control = true
+never_ignored Other = true
+never_ignored Inner = true
+
+-- After a line feed, and after the spaces that follow it, which begin these bytes.
+abbrev pub PassesSpaces : List ℕ → BytePlace → BytePlace → Type 0
+PassesSpaces bytes p q = (spaces : Offset) × RunsTo run.Spaces bytes spaces × (q ≡ record {
+  byte = (p.byte + 1) +
+      spaces.bytes;
+  place = columns_on spaces.characters (next_line p.place);
+})
+
+-- between ignored tokens from character `start` of a source on, or at their end
+pub record IsInIgnored (source : List ℕ) (start : ℕ) (p : BytePlace) : Type 0 where
+  pub placed : IsPlaced source p.byte p.place
+  pub ignored : start + ignored_size (drop start (chars source)) ≡ p.place.index + ignored_size (drop p.place.index
+      (chars source))
+
+-- where ignored tokens from character `start` of a source on end, and the class of the byte there
+pub record EndsIgnored (source : List ℕ) (start : ℕ) (p : BytePlace) (class : ByteClass) : Type 0 where
+  pub placed : IsPlaced source p.byte p.place
+  pub index_is : p.place.index ≡ start + ignored_size (drop start (chars source))
+  pub class_is : class ≡ first_class (drop p.place.index (chars source))

@@ -1,17 +1,17 @@
 //! The loops over a text.
-ghost use Rattle.std.specs.Prelude.{◌≡◌, ◌+◌, ◌<◌, ◌≤◌, ◌^◌, length, take, drop};
+ghost use Rattle.std.specs.Prelude.{◌≡◌, ◌+◌, ◌<◌, ◌≤◌, ◌^◌, length, take, drop, true};
 ghost use Rattle.std.specs.List.{fold};
 ghost use Rattle.std.specs.Str.{chars};
 ghost use Rattle.graphql_lexical.specs.declared.state.State.TheVariants.{Start};
 ghost use Rattle.graphql_lexical.specs.device.Machines.{reach};
 ghost use Rattle.graphql_lexical.specs.Place.{past_character};
-ghost use Rattle.graphql_lexical.specs.device.Scan.{step as next_state};
+ghost use Rattle.graphql_lexical.specs.device.Scan.{ignored_size, step as next_state};
 ghost use Rattle.juniper_tokens.specs.device.Offsets.{IsOffset};
-ghost use Rattle.juniper_tokens.specs.device.ByteRuns.{byte_at};
-ghost use Rattle.juniper_tokens.specs.device.LexingByScan.{begins_with_mark};
-ghost use Rattle.juniper_tokens.specs.device.Walks.{EndsIgnored, StaysOver, WalkedToken};
+ghost use Rattle.juniper_tokens.specs.device.LexingByScan.{IsPlaced, begins_with_mark};
+ghost use Rattle.juniper_tokens.specs.device.Walks.{EndsIgnored, IsInIgnored, PassesSpaces, StaysOver, WalkedToken, first_class, never_ignored};
 
 use crate::byte_classes::{ByteClass, byte_class};
+use crate::byte_position::BytePosition;
 use crate::lexer::machine::step;
 use crate::lexer::run::{Run, run_over};
 use crate::lexer::text::{Offset, begins_with_mark, first_characters, text_from};
@@ -21,8 +21,7 @@ use graphql_lexical::{Block, State};
 /// The end of ignored tokens.
 #[derive(Clone, Copy)]
 pub(crate) struct IgnoredEnd {
-    pub(crate) bytes: usize,
-    pub(crate) position: SourcePosition,
+    pub(crate) end: BytePosition,
     /// The class of the byte there, or of a zero byte at the end.
     pub(crate) class: ByteClass,
 }
@@ -34,67 +33,88 @@ pub(crate) struct Reached {
     pub(crate) end: Offset,
 }
 
-/// Skips the ignored tokens at the front of a text.
+/// Skips the ignored tokens at a position of a source.
 #[inline(always)]
-pub(crate) fn walk_ignored(text: &str, start: SourcePosition) -> IgnoredEnd
-    requires { start.index + length text.now < 2 ^ 64 }
-    ensures { EndsIgnored (chars text.now) start result.bytes result.position result.class }
+pub(crate) fn walk_ignored(source: &str, start: BytePosition) -> IgnoredEnd
+    requires { IsPlaced source.now start.byte start.place }
+    ensures { EndsIgnored source.now start.place.index result.end result.class }
 {
-    let bytes = text.as_bytes();
-    let mut position = start;
-    let mut i = 0;
-    while i < bytes.len() {
-        let class = byte_class(bytes[i]);
+    let bytes = source.as_bytes();
+    let mut here = start;
+    while here.bytes() < bytes.len() {
+        let class = byte_class(bytes[here.bytes()]);
         match class {
-            ByteClass::White => {
-                position.advance_col();
-                i += 1;
-            }
-            ByteClass::LineFeed => {
-                position.advance_line();
-                let spaces = run_over(Run::Spaces, &bytes[i + 1..]);
-                position = position.columns_on(spaces.characters);
-                i += 1 + spaces.bytes;
-            }
+            ByteClass::White => here = here.past_column(),
+            ByteClass::LineFeed => here = past_line_feed(bytes, here),
             ByteClass::Hash => {
-                let comment = run_over(Run::Comment, &bytes[i + 1..]);
-                position = position.columns_on(1 + comment.characters);
-                i += 1 + comment.bytes;
+                let comment = run_over(Run::Comment, &bytes[here.bytes() + 1..]);
+                here = here.past_column().past(comment);
             }
             ByteClass::Lead => {
-                if !is_mark_at(text, i, position.index() - start.index()) {
-                    return IgnoredEnd {
-                        bytes: i,
-                        position,
-                        class,
-                    };
+                if !is_mark_at(source, here.offset()) {
+                    return IgnoredEnd { end: here, class };
                 }
-                position.advance_col();
-                i += 3;
+                here = here.past(Offset {
+                    bytes: 3,
+                    characters: 1,
+                });
             }
             _ => {
-                return IgnoredEnd {
-                    bytes: i,
-                    position,
-                    class,
-                };
+                return IgnoredEnd { end: here, class };
             }
         }
     }
     IgnoredEnd {
-        bytes: i,
-        position,
+        end: here,
         class: ByteClass::Control,
     }
 }
 
+/// Skips white space, commas and line ends, which most ignored tokens are.
+///
+/// It is a loop of its own, so that the code for the most frequent tokens stays small.
+#[inline(always)]
+pub(crate) fn walk_blanks(source: &str, start: BytePosition) -> IgnoredEnd
+    requires { IsPlaced source.now start.byte start.place }
+    ensures ignored { IsInIgnored source.now start.place.index result.end }
+    ensures class { result.class ≡ first_class (drop result.end.place.index (chars source.now)) }
+    ensures ends { never_ignored result.class ≡ true → ignored_size (drop result.end.place.index (chars source.now)) ≡ 0 }
+{
+    let bytes = source.as_bytes();
+    let mut here = start;
+    while here.bytes() < bytes.len() {
+        let class = byte_class(bytes[here.bytes()]);
+        match class {
+            ByteClass::White => here = here.past_column(),
+            ByteClass::LineFeed => here = past_line_feed(bytes, here),
+            _ => {
+                return IgnoredEnd { end: here, class };
+            }
+        }
+    }
+    IgnoredEnd {
+        end: here,
+        class: ByteClass::Control,
+    }
+}
+
+// The position after a line feed and the spaces that follow it.
+#[inline(always)]
+fn past_line_feed(bytes: &[u8], here: BytePosition) -> BytePosition
+    requires { here.byte < length bytes.now }
+    ensures { PassesSpaces (drop (here.byte + 1) bytes.now) here result }
+{
+    let spaces = run_over(Run::Spaces, &bytes[here.bytes() + 1..]);
+    here.past_line_feed().past(spaces)
+}
+
 // Whether a byte order mark stands at this offset.
 #[cold]
-fn is_mark_at(text: &str, bytes: usize, characters: usize) -> bool
-    requires { bytes ≡ byte_at characters (chars text.now) }
-    ensures { result ≡ begins_with_mark (drop characters (chars text.now)) }
+fn is_mark_at(source: &str, here: Offset) -> bool
+    requires { IsOffset here (chars source.now) }
+    ensures { result ≡ begins_with_mark (drop here.characters (chars source.now)) }
 {
-    begins_with_mark(text_from(text, Offset { bytes, characters }))
+    begins_with_mark(text_from(source, here))
 }
 
 // The offset after the characters that stand for themselves in a string or in a block string.

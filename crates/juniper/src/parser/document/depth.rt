@@ -1,19 +1,16 @@
 //! Documents within a limit on nesting.
-ghost use Rattle.std.specs.Prelude.{◌≡◌, ℕ, List, IfOk};
+ghost use Rattle.std.specs.Prelude.{◌≡◌, IfOk};
 ghost use Rattle.std.specs.Str.{chars};
-ghost use Rattle.graphql_lexical.specs.Cutting.{Cut};
 ghost use Rattle.juniper_tokens.specs.Errors.{view_fault};
 ghost use Rattle.juniper_tokens.specs.Spans.{view_span};
 ghost use Rattle.juniper.specs.View.{view_document};
 ghost use Rattle.juniper.specs.Scalars.{stated};
 ghost use Rattle.juniper.specs.Promise.{HasTree, IsRefusal};
-ghost use Rattle.juniper.specs.Within.{IfRefusedWithin, IfTooDeep, IfDecided, HasTooDeep, IsWithin, ReturnsWithin, failure_within};
+ghost use Rattle.juniper.specs.Within.{IfRefusedWithin, IfTooDeep, IfDecided, HasTooDeep, IsWithin, failure_within};
 
 use crate::parser::document::limited::{LimitFailure, Limits, parse_document_source_limited};
-use crate::parser::document::parts::build_document;
 use crate::tree::ast::OwnedDocument;
-use crate::tree::trees::Trees;
-use juniper_tokens::{ParseFailure, Parser, Span};
+use juniper_tokens::{ParseFailure, Span};
 use juniper_values::ScalarValue;
 use std::alloc::Global;
 
@@ -62,18 +59,6 @@ pub fn parse_document_source_within<'a, S: ScalarValue>(
         Err(LimitFailure::TooDeep(span)) => Err(DepthFailure::TooDeep(span)),
         Err(LimitFailure::TooMany(_)) => unreachable!(),
     }
-}
-
-/// Parses the tokens of a source.
-pub(crate) fn parse_within<'a, S: ScalarValue>(
-    parser: &mut Parser<'a>,
-    depth: usize,
-) -> Result<OwnedDocument<'a, S>, DepthFailure>
-    ensures { (source : List ℕ) → Cut source parser.old → ReturnsWithin (stated S.reading S.of_bool) depth source (view_document S.content) result }
-{
-    let deep = parser.end_at_nesting(depth);
-    let mut trees = Trees::<'a>::new(parser.allocator());
-    build_document::<S, Trees<'a>, DepthFailure>(&mut parser.cursor(), deep, &mut trees)
 }
 
 /// The failure for tokens that were ended after one nested too deep, which has this span: if they are refused at that

@@ -9,9 +9,11 @@ ghost use Rattle.juniper.specs.Promise.{HasTree, IsRefusal};
 ghost use Rattle.juniper.specs.Within.{HasTooDeep, IsWithin};
 ghost use Rattle.juniper.specs.Limited.{HasFewTokens, HasTooManyTokens, IfDecidedLimited, IfParsed, IfRefusedLimited, IfTooDeepLimited, IfTooManyLimited};
 
-use crate::parser::document::depth::{DepthFailure, parse_within};
+use crate::parser::document::depth::DepthFailure;
+use crate::parser::document::parts::build_document_source;
 use crate::tree::ast::OwnedDocument;
-use juniper_tokens::{Lexer, LimitedLexFailure, ParseFailure, Parser, Span};
+use crate::tree::trees::Trees;
+use juniper_tokens::{LimitedLexFailure, ParseFailure, Span, Streamed};
 use juniper_values::ScalarValue;
 use std::alloc::Global;
 
@@ -80,13 +82,15 @@ impl From<LimitedLexFailure> for LimitFailure {
 
 /// Parses a source text as a document within limits.
 ///
-/// The tokens are taken first. If there are more than `limits.tokens` before the end and before the first lexical
-/// error, `TooMany` is returned with the span of the first token past the limit: nothing after it is read, and nothing
-/// is parsed. Otherwise the result is that of `parse_document_source_within` with `limits.depth`. So a lexical error
-/// among the first `limits.tokens` tokens comes before a token past the limit, that token before any other lexical
-/// error, and this one before a token that is nested too deep and before an error of the grammar. Of the last two, the
-/// one at the earlier token comes first. `TooMany` and `TooDeep` themselves take no memory; if memory runs out, returns
-/// `LimitFailure::Parse` with `ParseFailure::Memory`.
+/// Returns `TooMany` with the span of the first token past the limit if there are more than `limits.tokens` tokens
+/// before the end and before the first lexical error. Otherwise the result is that of `parse_document_source_within`
+/// with `limits.depth`. So a lexical error among the first `limits.tokens` tokens comes before a token past the limit,
+/// that token before any other lexical error, and this one before a token that is nested too deep and before an error of
+/// the grammar. Of the last two, the one at the earlier token comes first. `TooMany` and `TooDeep` themselves take no
+/// memory; if memory runs out, returns `LimitFailure::Parse` with `ParseFailure::Memory`.
+///
+/// Holds no list of tokens: each is read when the one before it is taken, and no token past a limit is parsed. A source
+/// without a tree is lexed once more from its beginning, since a lexical error comes before the others.
 ///
 /// ```
 /// let limits = Limits { depth: 200, tokens: 10_000 };
@@ -112,7 +116,6 @@ pub fn parse_document_source_limited<'a, S: ScalarValue>(
     // So `usize::MAX` is no limit.
     ensures limited { IfTooManyLimited result (λ _. limits.tokens < 2 ^ 63) }
 {
-    let mut lexer = Lexer::new(alloc, s);
-    let mut parser = Parser::new_within(&mut lexer, limits.tokens)?;
-    Ok(parse_within(&mut parser, limits.depth)?)
+    let mut trees = Trees::<'a, Streamed>::new(alloc);
+    build_document_source::<S, Trees<'a, Streamed>, LimitFailure>(alloc, &s, limits, &mut trees)
 }

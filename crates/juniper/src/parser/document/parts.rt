@@ -1,80 +1,48 @@
 //! Documents of which a builder makes what its caller wants.
-ghost use Rattle.std.specs.Prelude.{◌≡◌, ℕ, List, true, IfOk, OnOk};
+ghost use Rattle.std.specs.Prelude.{◌≡◌, List, true, IfOk, OnOk};
 ghost use Rattle.std.specs.Str.{chars};
-ghost use Rattle.graphql_lexical.specs.Cutting.{Cut, Lexeme};
+ghost use Rattle.graphql_lexical.specs.Cutting.{Lexeme};
 ghost use Rattle.graphql_grammar.specs.Tree.{Scalars};
 ghost use Rattle.graphql_grammar.specs.device.Productions.{document};
 ghost use Rattle.juniper_tokens.specs.Cursor.{Fails};
 ghost use Rattle.juniper_tokens.specs.Errors.{Error};
-ghost use Rattle.juniper_tokens.specs.Nesting.{EndsAtNesting};
 ghost use Rattle.juniper_tokens.specs.Taking.{left, GoesOn};
 ghost use Rattle.juniper_tokens.specs.declared.error.ParseFailure.{ParseFailure as Failed};
 ghost use Rattle.juniper_values.specs.Scalar.{Content};
 ghost use Rattle.juniper.specs.Building.{BuildsList, BuildsTree};
 ghost use Rattle.juniper.specs.Limited.{FailsAs, FailsLimited, HasFewTokens};
 ghost use Rattle.juniper.specs.Scalars.{stated};
-ghost use Rattle.juniper.specs.Within.{FailsWithin, IsWithin};
+ghost use Rattle.juniper.specs.Within.{IsWithin};
 ghost use Rattle.juniper.specs.device.Builds.{BuildsAs};
 ghost use Rattle.juniper.specs.device.Ended.{EndsWithin};
 ghost use Rattle.juniper.specs.device.Steps.{cursor};
 
 use crate::parser::builder::{Builder, Gather};
 use crate::parser::definition::parse_definition;
-use crate::parser::document::depth::{DepthFailure, depth_failure};
+use crate::parser::document::depth::depth_failure;
 use crate::parser::document::limited::{LimitFailure, Limits};
 use crate::parser::lists::expected;
 use crate::parser::next::next_is;
-use juniper_tokens::{Cursor, Kind, ParseFailure, SourceText, Span, check_tokens};
+use juniper_tokens::{Cursor, Kind, ParseFailure, SourceText, check_tokens};
 use juniper_values::ScalarValue;
 use std::alloc::Global;
 
-/// Parses the tokens of a source as a document, and has a builder build each of its parts as soon as it is read:
+/// Parses a source as a document within limits, and has a builder build each of its parts as soon as it is read:
 /// `Document = Definition+ EndOfFile`
 ///
-/// The cursor is at the first of the source's tokens, and these were ended by `Parser::end_at_nesting`, which returned
-/// `deep`. The result is then that of `parse_document_source_within` for the source, with what was built in place of the
-/// tree, and an error of any type `F` that is made of a `DepthFailure`. After an error, or if memory runs out, some
-/// parts of a document may have been built. Takes no memory but what the builder takes and the words of an error, and
-/// stack in proportion to the nesting of the tokens.
-///
-/// ```
-/// // `Fields` is a type of the program's own that counts fields, and is a `Builder`
-/// let mut lexer = Lexer::new(alloc, source);
-/// let mut parser = Parser::new_within(&mut lexer, 10_000)?;
-/// let deep = parser.end_at_nesting(200);
-/// let mut fields = Fields::none();
-/// build_document::<DefaultScalarValue, Fields, DepthFailure>(&mut parser.cursor(), deep, &mut fields)?;
-/// ```
-// A call whose builder names a lifetime and a scalar type can't name the type of the error, which has a lifetime, too.
-pub fn build_document<S: ScalarValue, B: Builder<S>, F: Drop + From<DepthFailure>>(
-    tokens: &mut Cursor<'_, B::Name, B::Feed>,
-    deep: Option<Span>,
-    builder: &mut B,
-) -> Result<B::Definitions, F>
-    ensures accepted { (depth : ℕ) (source : List ℕ) (lexemes : List Lexeme) → Cut source lexemes → EndsAtNesting depth lexemes deep (left tokens.old) → IfOk result (BuildsTree B.builds_definition B.Definitions.gathered (stated S.reading S.of_bool) source builder.old builder.new) }
-    ensures within { (depth : ℕ) (source : List ℕ) (lexemes : List Lexeme) → Cut source lexemes → EndsAtNesting depth lexemes deep (left tokens.old) → IfOk result (λ _. IsWithin (stated S.reading S.of_bool) depth source) }
-    ensures failed { (depth : ℕ) (source : List ℕ) (lexemes : List Lexeme) → Cut source lexemes → EndsAtNesting depth lexemes deep (left tokens.old) → FailsAs F.from_gives result (FailsWithin (stated S.reading S.of_bool) depth source) }
-{
-    match build_definitions::<S, B>(tokens, builder) {
-        Ok(definitions) => Ok(definitions),
-        Err(failure) => Err(F::from(depth_failure(deep, failure))),
-    }
-}
-
-/// Parses a source as a document within limits, as `build_document` does, and keeps no list of tokens: each is read when
-/// the one before it is taken.
-///
-/// The result is that of `parse_document_source_limited` for the source, with what was built in place of the tree, and an
+/// Keeps no list of tokens: each is read when the one before it is taken. The result is that of `parse_document_source_limited` for the source, with what was built in place of the tree, and an
 /// error of any type `F` that is made of a `LimitFailure`. The builder's `Feed` is `Streamed`. After an error, or if
 /// memory runs out, some parts of a document may have been built. If the source isn't a document within the limits, it is
 /// lexed once more from its beginning, since a lexical error comes before any other. Takes no memory but what the builder
 /// takes and the words of an error, and stack in proportion to the nesting of the tokens.
 ///
 /// ```
+/// // `Fields` is a type of the program's own that counts fields, and is a `Builder`
 /// let limits = Limits { depth: 200, tokens: 10_000 };
 /// let mut fields = Fields::none();
 /// build_document_source::<DefaultScalarValue, Fields, LimitFailure>(alloc, &source, limits, &mut fields)?;
 /// ```
+// A call whose builder names a lifetime and a scalar type can't name the type of the error, which has a lifetime, too.
 pub fn build_document_source<S: ScalarValue, B: Builder<S>, F: Drop + From<LimitFailure>>(
     alloc: Global,
     source: &B::Name,
@@ -111,16 +79,6 @@ fn limit_failure(alloc: Global, source: &str, limits: Limits, failure: ParseFail
         Ok(deep) => LimitFailure::from(depth_failure(deep, failure)),
         Err(failure) => LimitFailure::from(failure),
     }
-}
-
-/// `Definition+`, up to the end, which is left there, with an error of any type that is made of a parser's.
-pub(crate) fn build_definitions_or<S: ScalarValue, B: Builder<S>, F: Drop + From<ParseFailure>>(
-    tokens: &mut Cursor<'_, B::Name, B::Feed>,
-    builder: &mut B,
-) -> Result<B::Definitions, F>
-    ensures { BuildsAs F.from_gives (BuildsList B.builds_definition B.Definitions.gathered builder.old builder.new) result (cursor (stated S.reading S.of_bool) document (left tokens.old)) }
-{
-    Ok(build_definitions::<S, B>(tokens, builder)?)
 }
 
 /// `Definition+`, up to the end, which is left there.

@@ -1,5 +1,5 @@
 //! Documents whose definitions are passed on one by one.
-ghost use Rattle.std.specs.Prelude.{◌-◌, ◌<◌, ◌^◌, ◌∷◌, [], ℕ, List, IfOk, OnOk, OnErr};
+ghost use Rattle.std.specs.Prelude.{◌<◌, ◌^◌, ◌∷◌, [], ℕ, List, IfOk, OnOk, OnErr};
 ghost use Rattle.std.specs.Str.{chars};
 ghost use Rattle.graphql_lexical.specs.Cutting.{Cut};
 ghost use Rattle.graphql_grammar.specs.Tree.{Definition as Seen};
@@ -21,7 +21,7 @@ use crate::parser::document::depth::{DepthFailure, depth_failure};
 use crate::parser::document::limited::{LimitFailure, Limits};
 use crate::parser::next::next_is;
 use crate::tree::ast::Definition;
-use juniper_tokens::{Cursor, Kind, Lexer, ParseFailure, Parser, UnlocatedParseResult};
+use juniper_tokens::{Cursor, Kind, Lexer, Parser, UnlocatedParseResult};
 use juniper_values::ScalarValue;
 use std::alloc::{AllocError, Global};
 

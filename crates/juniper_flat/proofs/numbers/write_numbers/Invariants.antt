@@ -4,7 +4,7 @@ use Rattle.graphql_grammar.specs.Tree.{Definition}
 use Rattle.graphql_nodes.specs.Nodes.{document_nodes}
 use Rattle.juniper_complexity.specs.Faults.{OperationsHave}
 use Rattle.juniper_values.specs.Scalar.{Content}
-use Rattle.juniper_flat.specs.Both.{AreMarked}
+use Rattle.juniper_flat.specs.Buildings.{AreMarked}
 use Rattle.juniper_flat.specs.Builders.{with_written}
 use Rattle.juniper_flat.specs.Weighed.{numbers_of}
 use Rattle.juniper_flat.proofs.numbers.write_numbers.Given as goal

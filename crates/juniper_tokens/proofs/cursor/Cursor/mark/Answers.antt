@@ -25,7 +25,8 @@ pub returns-then-IS_STREAM : goal.returns-then-IS_STREAM
 returns-then-IS_STREAM g c =
     let here = c.self.inside in
     let source = g.W.SourceText.characters here.source in
-    stream_start source g.M.Feed.IS_STREAM here.records here.stream here.taken here.next here.last_end
+    c.position.ensures ∙ stream_start source g.M.Feed.IS_STREAM here.records here.stream here.taken here.next
+    here.last_end
     c.self.invariant c.args.self.now c.self.view_is (sym c.IS_STREAM.ensures ∙ c.if-IS_STREAM.true)
 
 pub returns-else-IS_STREAM : goal.returns-else-IS_STREAM

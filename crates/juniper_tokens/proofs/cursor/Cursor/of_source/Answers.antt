@@ -4,7 +4,7 @@ use Rattle.juniper_tokens.specs.Counting.{HasFew}
 use Rattle.juniper_tokens.specs.Nesting.{IsShallow}
 use Rattle.juniper_tokens.specs.Taking.{Taking, left}
 use Rattle.juniper_tokens.specs.device.Feeds.{seen}
-use Rattle.juniper_tokens.specs.device.Streams.{StreamState, GivesNext, begun}
+use Rattle.juniper_tokens.specs.device.Streams.{StreamState, GivesNext, begun, standing}
 use Rattle.juniper_tokens.proofs.Checking.{ended_stream, whole_stream}
 use Rattle.juniper_tokens.proofs.Feeds.{seen_begun, stream_begun, to_stream}
 use Rattle.juniper_tokens.proofs.cursor.Cursor.of_source.Goals as goal
@@ -13,19 +13,22 @@ pub invariant_of-result : goal.invariant_of-result
 invariant_of-result g c =
     let source = g.W.SourceText.characters c.args.source.now in
     let begins = c.new-stream.ensures ∙ ap (λ (text : List ℕ). begun text c.args.depth c.args.most) c.as_str.ensures in
-    let gives = subst (λ (s : StreamState). GivesNext s c.next.new.next c.next.new.self) begins c.next.ensures in
-    let stands = stream_begun source c.args.depth c.args.most c.ranges.most.fits c.next.new.next c.next.new.self gives
-    c.new_origin.result in
-    to_stream source g.M.Feed.IS_STREAM c.none.result c.next.new.self 0 c.next.new.next c.new_origin.result c.requires
+    let t = c.next.new.self in
+    let p = standing t c.next.new.next in
+    let gives = subst (λ (s : StreamState). GivesNext s p t) begins c.next.ensures in
+    let stands = stream_begun source c.args.depth c.args.most c.ranges.most.fits p t gives c.origin.result.place in
+    to_stream source g.M.Feed.IS_STREAM c.none.result t 0 c.next.new.next c.origin.result c.requires
     stands.stands stands.goes_on
 
 pub returns-clause-is : goal.returns-clause-is
 returns-clause-is g c =
     let source = g.W.SourceText.characters c.args.source.now in
     let begins = c.new-stream.ensures ∙ ap (λ (text : List ℕ). begun text c.args.depth c.args.most) c.as_str.ensures in
-    let gives = subst (λ (s : StreamState). GivesNext s c.next.new.next c.next.new.self) begins c.next.ensures in
-    ap (λ (b : Bool). seen source b c.none.result c.next.new.self 0) c.requires
-    ∙ seen_begun source c.args.depth c.args.most c.ranges.most.fits c.next.new.next c.next.new.self gives
+    let t = c.next.new.self in
+    let p = standing t c.next.new.next in
+    let gives = subst (λ (s : StreamState). GivesNext s p t) begins c.next.ensures in
+    ap (λ (b : Bool). seen source b c.none.result t 0) c.requires
+    ∙ seen_begun source c.args.depth c.args.most c.ranges.most.fits p t gives
 
 pub returns-clause-whole : goal.returns-clause-whole
 returns-clause-whole g c = λ whole.

@@ -27,8 +27,8 @@ returns-then-IS_STREAM g c =
     let here = c.self.inside in
     let source = g.W.SourceText.characters here.source in
     ap₂ (λ (p q : Place). record { start = p; end = q })
-    (stream_start source g.M.Feed.IS_STREAM here.records here.stream here.taken here.next here.last_end
-    c.self.invariant c.args.self.now c.self.view_is (sym c.IS_STREAM.ensures ∙ c.if-IS_STREAM.true))
+    (c.position.ensures ∙ stream_start source g.M.Feed.IS_STREAM here.records here.stream here.taken here.next
+    here.last_end c.self.invariant c.args.self.now c.self.view_is (sym c.IS_STREAM.ensures ∙ c.if-IS_STREAM.true))
     (c.position-end.ensures ∙ stream_end source g.M.Feed.IS_STREAM here.records here.stream here.taken here.next
     here.last_end
     c.self.invariant c.args.self.now c.self.view_is (sym c.IS_STREAM.ensures ∙ c.if-IS_STREAM.true))

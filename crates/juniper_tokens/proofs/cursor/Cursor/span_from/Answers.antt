@@ -37,7 +37,8 @@ returns-then-IS_STREAM-clause-span g c =
     let here = c.self.inside in
     let source = g.W.SourceText.characters here.source in
     ap (λ (p : Place). record { start = c.args.start; end = p })
-    (stream_last source g.M.Feed.IS_STREAM here.records here.stream here.taken here.next here.last_end
+    (c.position-end.ensures ∙ stream_last source g.M.Feed.IS_STREAM here.records here.stream here.taken here.next
+    here.last_end
     c.self.invariant c.args.self.now c.self.view_is (sym c.IS_STREAM.ensures ∙ c.if-IS_STREAM.true) c.requires)
 
 pub returns-else-IS_STREAM-clause-span : goal.returns-else-IS_STREAM-clause-span

@@ -15,4 +15,4 @@ returns-clause-start c =
 
 pub returns-clause-end : goal.returns-clause-end
 returns-clause-end c =
-    c.self.invariant.place_is ∙ ap (λ (w : LexerState). place w.source w.index) c.self.view_is
+    c.position.ensures ∙ c.self.invariant.place_is ∙ ap (λ (w : LexerState). place w.source w.index) c.self.view_is

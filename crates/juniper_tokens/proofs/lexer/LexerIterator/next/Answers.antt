@@ -8,7 +8,8 @@ use Rattle.juniper_tokens.proofs.lexer.LexerIterator.next.Goals as goal
 
 pub token-requires-clause-start : goal.token-requires-clause-start
 token-requires-clause-start c =
-    c.self.invariant.place_is ∙ ap (λ (s : LexerState). place s.source s.index) c.self.view_is
+    c.position-start.ensures ∙ c.self.invariant.place_is ∙ ap (λ (s : LexerState). place s.source s.index)
+    c.self.view_is
     ∙ ap₂ place (sym c.in-Some.ensures.source) (sym c.in-Some.ensures.takes.from)
 
 pub returns-in-Some-clause-steps : goal.returns-in-Some-clause-steps
@@ -17,7 +18,8 @@ returns-in-Some-clause-steps c =
       sym c.has_ended.ensures ∙ c.if-has_ended.false,
       same,
       token_given c.args.self.now c.in-Some.range c.token.result c.take_plain.new.self
-          (subst (λ (s : LexerState). TakesRange s c.in-Some.range c.take_plain.new.self) c.skip_ignored-class.ensures.passes
+          (subst (λ (s : LexerState). TakesRange s c.in-Some.range c.take_plain.new.self)
+          c.skip_ignored-class.ensures.passes
           c.in-Some.ensures.takes)
           (c.token.ensures ∙ ap (λ t. range_lexeme t c.in-Some.range) same),
     )

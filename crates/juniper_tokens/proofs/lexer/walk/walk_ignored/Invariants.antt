@@ -1,10 +1,9 @@
-use Rattle.std.proofs.Common.{length, ◌-◌, ◌+◌, ◌≤◌}
-use Rattle.std.specs.Str.{chars}
-use Rattle.juniper_tokens.proofs.IgnoredWalks.{InIgnored}
+use Rattle.std.proofs.Common.{length, ◌-◌}
+use Rattle.juniper_tokens.specs.device.Walks.{IsInIgnored}
 use Rattle.juniper_tokens.proofs.lexer.walk.walk_ignored.Given as goal
 
-abbrev pub invariant-loop-i : goal.invariant-loop-i
-invariant-loop-i l = InIgnored (chars l.text) l.fn.start l.i l.position × (l.position.index ≤ l.fn.start.index + l.i)
+abbrev pub invariant-loop-bytes : goal.invariant-loop-bytes
+invariant-loop-bytes l = IsInIgnored l.fn.source l.fn.start.place.index l.here
 
-abbrev pub decreases-loop-i : goal.decreases-loop-i
-decreases-loop-i l = length l.bytes - l.i
+abbrev pub decreases-loop-bytes : goal.decreases-loop-bytes
+decreases-loop-bytes l = length l.bytes - l.here.byte

@@ -1,9 +1,10 @@
-use Rattle.std.proofs.Common.{◌≡◌, true, false, ◌∙◌, ap, subst, rules}
+use Rattle.std.proofs.Common.{◌≡◌, true, false, ◌∙◌, refl, sym, ap, subst, rules}
+use Rattle.graphql_lexical.specs.Place.{place}
 use Rattle.graphql_lexical.specs.device.Scan.{is_end}
 use Rattle.juniper_tokens.specs.declared.stream.Placed.{Placed}
 use Rattle.juniper_tokens.specs.device.LexingByScan.{past_ignored}
-use Rattle.juniper_tokens.specs.device.Streams.{StreamState, GivesNext}
-use Rattle.juniper_tokens.proofs.Streams.{end_last, token_left_out, error_left_out}
+use Rattle.juniper_tokens.specs.device.Streams.{StreamState, Standing, GivesNext, standing}
+use Rattle.juniper_tokens.proofs.Streams.{at_lexer, end_last, token_left_out, error_left_out, stands_as}
 use Rattle.juniper_tokens.proofs.stream.TokenStream.last.Goals.{in_default-via-in-Ok+else-eq}
 use Rattle.juniper_tokens.proofs.stream.TokenStream.last.Goals.{in_default-via-in_default}
 use Rattle.juniper_tokens.proofs.stream.TokenStream.last.Goals as goal
@@ -18,22 +19,17 @@ returns-in-Ok c =
     let there : u ≡ past_ignored here.lexer = c.skip_ignored.ensures.passes
     ∙ ap past_ignored c.duplicate-lexer.ensures in
     let last : is_end c.in-Ok.range.kind ≡ true = search rules in
-    let p : Placed = record { range = c.in-Ok.range; start = c.position-start.result } in
-    let t : StreamState = record {
-      source = v.source;
-      index = v.index;
-      most = here.most;
-      depth = here.depth;
-      left = here.left;
-      opened = here.opened;
-      closed = here.closed;
-      deep = here.is_deep;
-      short = here.is_short;
-    } in
-    subst (λ (s : StreamState). GivesNext s p t) c.self.view_is
+    let p : Placed = record { kind = c.in-Ok.range.kind; start = c.here-start.result } in
+    let t = at_lexer v here.most here.depth here.left here.opened here.closed here.is_deep here.is_short in
+    let before = at_lexer here.lexer here.most here.depth here.left here.opened here.closed here.is_deep
+    here.is_short in
+    let seen = stands_as u c.in-Ok.range v c.in-Ok.ensures.takes p t refl c.here-start.ensures.place
+    c.here-start.ensures.index c.in-Ok.ensures.source refl in
+    subst (λ (s : StreamState). GivesNext s (standing t p) t) c.self.view_is
+    (subst (λ (q : Standing). GivesNext before q t) (sym seen)
     (end_last here.most here.depth here.left here.opened here.closed here.is_deep here.is_short none c.if-self.false
-    here.lexer u there whole v c.in-Ok.range c.in-Ok.ensures.takes c.in-Ok.ensures.source c.position-start.result
-    c.position-start.ensures last)
+    here.lexer u there whole v c.in-Ok.range c.in-Ok.ensures.takes c.in-Ok.ensures.source (place u.source u.index)
+    refl last))
 
 pub returns : goal.returns
 returns c =
@@ -43,8 +39,8 @@ returns c =
     let v = c.scan_out_of_line.new.self in
     let there : u ≡ past_ignored here.lexer = c.skip_ignored.ensures.passes
     ∙ ap past_ignored c.duplicate-lexer.ensures in
-    let p = c.end_here-in_default.new.next in
     let t = c.end_here-in_default.new.self in
+    let p = standing t c.end_here-in_default.new.next in
     elim c.in_default.branch [
       | in_default-via-in-Ok+else-eq w ↦
           let other : is_end w.in-Ok.range.kind ≡ false = search rules in

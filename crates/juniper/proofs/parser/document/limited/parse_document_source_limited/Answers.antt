@@ -1,19 +1,20 @@
-use Rattle.std.proofs.Common.{List}
 use Rattle.std.specs.Str.{chars}
-use Rattle.graphql_lexical.specs.Cutting.{Lexeme}
-use Rattle.juniper.specs.View.{view_document}
 use Rattle.juniper.specs.Scalars.{stated}
-use Rattle.juniper.proofs.BothLimits.{tokens_failed}
+use Rattle.juniper.specs.View.{view_definition, view_document}
+use Rattle.juniper.proofs.BothLimits.{limited_returns}
+use Rattle.juniper.proofs.Building.{seen_trees}
 use Rattle.juniper.proofs.parser.document.limited.parse_document_source_limited.Goals as goal
 
-pub returns-in_err-parser : goal.returns-in_err-parser
-returns-in_err-parser g c =
+pub returns : goal.returns
+returns g c =
     let S = stated g.S.ParseScalarValue.reading g.S.ScalarValue.of_bool in
-    let view = view_document g.S.ParseScalarValue.content in
-    let failed = c.in_err-parser in
-    let q = tokens_failed S c.args.limits.depth c.args.limits.tokens (chars c.args.s.now) view (List Lexeme) failed.field-0.0
-    c.from_residual.result c.from_residual.ensures.1 c.new-lexer.result c.new-lexer.ensures failed.ensures.fault
-    failed.ensures.zero_width failed.ensures.few failed.ensures.many failed.ensures.limited in
+    let content = g.S.ParseScalarValue.content in
+    let limits = c.args.limits in
+    let source = chars c.args.s.now in
+    let built = c.build_document_source in
+    let q = limited_returns S limits.depth limits.tokens source (view_document content) built.result
+    (seen_trees (view_definition content) (λ ds. ds.items) S source _ _ built.result built.ensures.accepted)
+    built.ensures.within built.ensures.few built.ensures.failed in
     record {
       accepted = q.accepted;
       refused = q.refused;
