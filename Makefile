@@ -3,7 +3,7 @@
 
 .DEFAULT_GOAL := help
 .PHONY: help prove check check-one try format must-fail plant rows refusals growth figures library wrong-bodies install release \
-    check-release version instructions speed habits style fix graphql-core gate
+    check-release version instructions speed habits style fix graphql-core graphql-js gate
 
 help: # list these names
 	@sed -n 's/^\([a-z-]*\): # \(.*\)/\1  \2/p' Makefile
@@ -86,6 +86,10 @@ graphql-core: # unpack into FOLDER what Debian has of graphql-core and graphene,
 	tests/newest --suite bookworm python3-graphql-core $(FOLDER)/tests
 	FIRTHNAPKIN_GRAPHQL_CORE=$(FOLDER)/stable/$(FOUND):$(FOLDER)/newest/$(FOUND) PYTHONPATH=$(FOLDER)/others/$(FOUND) \
 	    FIRTHNAPKIN_GRAPHQL_CORE_TESTS=$(FOLDER)/tests/$(FOUND)/graphql tests/check_library
+
+graphql-js: # unpack into FOLDER what Debian has of graphql-js, and test Node's package beside it
+	tests/newest node-graphql $(FOLDER)
+	FIRTHNAPKIN_GRAPHQL_JS=$(FOLDER)/usr/share/nodejs/graphql tests/check_library
 
 gate: # run the gate
 	./test

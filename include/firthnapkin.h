@@ -259,7 +259,10 @@ static inline const char *firthnapkin_error_detail_name(uint32_t detail) {
  * others leave it as it was.
  *
  * It also returns FIRTHNAPKIN_NOT_UTF8, FIRTHNAPKIN_OUT_OF_MEMORY, FIRTHNAPKIN_SOURCE_TOO_LONG and FIRTHNAPKIN_INVALID_LIMIT.
- * It holds no list of tokens, no tree and no text. */
+ * It holds no list of tokens, no tree and no text.
+ *
+ * With both capacities 0 the call checks a source, and writes nothing except the lengths and an error. A document has a node, so
+ * FIRTHNAPKIN_BUFFER_TOO_SMALL then says that the source is a document within the limits, and FIRTHNAPKIN_OK isn't returned. */
 uint32_t firthnapkin_parse(const uint8_t *source, size_t length, const firthnapkin_limits *limits, firthnapkin_node *nodes,
                            size_t nodes_capacity, size_t *nodes_length, uint8_t *texts, size_t texts_capacity,
                            size_t *texts_length, firthnapkin_error *error);
@@ -277,7 +280,12 @@ uint32_t firthnapkin_parse(const uint8_t *source, size_t length, const firthnapk
  * and goes through each spread's fragment before what is after the spread. What no operation reaches isn't looked at. The nodes
  * and texts are in the buffers as far as they fit, and their lengths are set, as with FIRTHNAPKIN_BUFFER_TOO_SMALL.
  *
- * It also returns the other statuses of firthnapkin_parse, and then does as that. */
+ * It also returns the other statuses of firthnapkin_parse, and then does as that.
+ *
+ * With capacities of 0 for nodes and texts the call checks a source: FIRTHNAPKIN_BUFFER_TOO_SMALL then says that the source is a
+ * document within the limits and that each operation can be expanded. If `complexities_length` is at most the capacity, the array
+ * has the numbers of all operations, to be compared with limits of the caller's. Otherwise it has those of the first operations,
+ * and a call with room for `complexities_length` has all. */
 uint32_t firthnapkin_parse_complexities(const uint8_t *source, size_t length, const firthnapkin_limits *limits,
                                         firthnapkin_node *nodes, size_t nodes_capacity, size_t *nodes_length, uint8_t *texts,
                                         size_t texts_capacity, size_t *texts_length, firthnapkin_complexity *complexities,

@@ -159,6 +159,7 @@ sizes = ["field_depth" if it == "depth" else it for it in numbers_of_complexity]
 for path, pattern in (
     ("python/src/firthnapkin/parser.py", r"^    (\w+): Annotated\[.*, SizeLimit\("),
     ("python/src/firthnapkin/graphql_core.py", r"^    (max_\w+): Optional\[int\] = None,$"),
+    ("python/src/firthnapkin/checks.py", r"^    (max_\w+): Optional\[int\] = None,$"),
     ("node/lib/limits.js", r'^  (\w+): "How .*",$'),
     ("go/parse.go", r"^\t(\w+) +int // an operation's "),
     ("rust/src/lib.rs", r'^    (\w+): "How .*", "[a-z ]+";$'),
@@ -173,6 +174,7 @@ found = re.findall(r'^    \w+: "How .*", "([a-z ]+)";$', library, re.M)
 check("what Rust's limits on operations are on", found, counted)
 for path, pattern in (
     ("python/src/firthnapkin/parser.py", r"^    depth: Annotated\[.*\] = (\d+),"),
+    ("python/src/firthnapkin/checks.py", r"^    depth: int = (\d+),"),
     ("go/parse.go", r"DefaultLimits = Limits\{Depth: (\d+), "),
     ("rust/src/lib.rs", r"DEFAULT_DEPTH: u32 = (\d+);"),
     ("node/lib/limits.js", r"depth: \[(\d+), "),

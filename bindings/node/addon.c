@@ -2,13 +2,20 @@
  * firthnapkin_limits and of limits on sizes, and `allocate` makes an ArrayBuffer of so many bytes:
  *
  *     parse(buffer, limits, allocate)     the nodes, and their texts; with a limit on sizes the complexities, too
+ *     check(buffer, limits, allocate)     no parts, and no texts except an error's words
  *     complexities(buffer, allocate)      no parts, and the complexities of the operations
  *     tokens(buffer, tokens, allocate)    the tokens
  *     canonical(buffer, allocate)         the canonical text
  *     excerpt(buffer, byte, allocate)     the lines around a byte
  *
  * Each returns { status, parts, texts, complexities }: the name of its status, an ArrayBuffer of nodes, of tokens or of the error,
- * one of texts or of the error's words, and one of complexities if any were found. */
+ * one of texts or of the error's words, and one of complexities if any were found.
+ *
+ * Two calls are for small sources, of which nearly all of the time would go to buffers and objects. They use memory that is kept,
+ * and make no errors: another call finds those.
+ *
+ *     parsePacked(source, limits)         what a parse found, as a string; undefined if it found no document, or much
+ *     isDocument(source, limits)          whether a source is a document within limits; false if it is large, too */
 #define _GNU_SOURCE
 #include "whole.h"
 
@@ -105,6 +112,57 @@ static int are_limits(napi_env env, napi_value value, package_limits *limits) {
     return 1;
 }
 
+/* Parses a source without any node, and with room for so many operations. A document then has a buffer that is too small: the
+ * status is FIRTHNAPKIN_OK in its place, also if there are more operations. */
+static uint32_t parse_without_nodes(const uint8_t *source, size_t length, const package_limits *limits,
+                                    firthnapkin_complexity *complexities, size_t capacity, size_t *operations,
+                                    firthnapkin_error *error) {
+    size_t nodes, texts;
+    uint32_t status = has_limit(&limits->sizes)
+        ? parse_complexities_on_stack(source, length, &limits->call, NULL, 0, &nodes, NULL, 0, &texts, complexities, capacity,
+                                      operations, error)
+        : parse_on_stack(source, length, &limits->call, NULL, 0, &nodes, NULL, 0, &texts, error);
+    return status == FIRTHNAPKIN_BUFFER_TOO_SMALL ? FIRTHNAPKIN_OK : status;
+}
+
+/* Makes the status and the error those of the first operation that exceeds a limit, if one does. The nodes up to that operation's
+ * are found for it. */
+static void refuse_large_without_nodes(whole *w, const uint8_t *source, size_t length, const package_limits *limits) {
+    excess found = first_beyond(w->complexities, w->complexities_count, &limits->sizes);
+    if (found.operation == w->complexities_count) return;
+    size_t nodes = w->complexities[found.operation].definition + 1, texts;
+    free(w->nodes);
+    w->nodes = malloc(nodes * sizeof *w->nodes);
+    if (w->nodes == NULL) {
+        w->status = FIRTHNAPKIN_OUT_OF_MEMORY;
+        return;
+    }
+    uint32_t status = parse_on_stack(source, length, &limits->call, w->nodes, nodes, &w->nodes_count, NULL, 0, &texts, &w->error);
+    if (status == FIRTHNAPKIN_OUT_OF_MEMORY)
+        w->status = status;
+    else
+        refuse_large(w, source, &limits->sizes);
+}
+
+/* Whether a source is a document within limits: the status, and the words of its error. The result has to be freed. */
+static whole check_whole(const uint8_t *source, size_t length, const package_limits *limits) {
+    whole w = {.status = FIRTHNAPKIN_OUT_OF_MEMORY};
+    size_t capacity, needed = at_first(length) / 8 + 4;
+    do {
+        capacity = needed;
+        if (!make_all_buffers(&w, 0, 0, capacity)) {
+            w.status = FIRTHNAPKIN_OUT_OF_MEMORY;
+            return w;
+        }
+        w.status = parse_without_nodes(source, length, limits, w.complexities, capacity, &w.complexities_count, &w.error);
+        needed = w.complexities_count;
+    } while (needed > capacity);
+    if (w.status == FIRTHNAPKIN_OK) refuse_large_without_nodes(&w, source, length, limits);
+    w.nodes_count = w.complexities_count = 0;
+    add_words(&w, source, length);
+    return w;
+}
+
 /* Reads a number as the library takes it; the largest for one that is out of its range. NaN is neither less than 0 nor more. */
 static int is_number(napi_env env, napi_value value, uint32_t *number) {
     double given;
@@ -120,6 +178,15 @@ static napi_value parse(napi_env env, napi_callback_info info) {
         return failed(env, "parse takes a buffer, limits and a function");
     whole w = document_whole(a.source, a.length, &limits.call, &limits.sizes);
     return result_of(env, &w, w.nodes, w.nodes_count * sizeof *w.nodes, a.allocate);
+}
+
+static napi_value check(napi_env env, napi_callback_info info) {
+    call_arguments a;
+    package_limits limits;
+    if (!are_read(env, info, 3, &a) || !are_limits(env, a.other, &limits))
+        return failed(env, "check takes a buffer, limits and a function");
+    whole w = check_whole(a.source, a.length, &limits);
+    return result_of(env, &w, NULL, 0, a.allocate);
 }
 
 static napi_value complexities(napi_env env, napi_callback_info info) {
@@ -154,6 +221,100 @@ static napi_value excerpt(napi_env env, napi_callback_info info) {
     return result_of(env, &w, NULL, 0, a.allocate);
 }
 
+/* What is kept for small sources, by each thread that loads the addon: the source as UTF-8, and what a call finds. */
+enum { KEPT_SOURCE = 1 << 14, KEPT_NODES = 1 << 10, KEPT_OPERATIONS = 1 << 6 };
+typedef struct {
+    firthnapkin_node nodes[KEPT_NODES];
+    /* Room for the complexities, the texts and the counts after all nodes. */
+    uint8_t after[KEPT_OPERATIONS * sizeof(firthnapkin_complexity) + KEPT_SOURCE + 32];
+    firthnapkin_complexity complexities[KEPT_OPERATIONS];
+    uint8_t texts[KEPT_SOURCE], source[KEPT_SOURCE];
+} kept;
+
+/* What comes last of a packed result. */
+typedef struct {
+    uint32_t nodes, operations, texts, source; /* the nodes and operations, and the bytes of texts and of the source */
+} packed_counts;
+
+static void drop_kept(napi_env env, void *data, void *hint) {
+    (void)env, (void)hint;
+    free(data);
+}
+
+/* Reads the arguments of a call for a small source, a string and limits, and writes the string to `source`, which may cut it off.
+ * Half of a surrogate pair would become another character. */
+static kept *kept_with(napi_env env, napi_callback_info info, size_t *length, package_limits *limits) {
+    napi_value values[2];
+    size_t count = 2;
+    void *data;
+    if (napi_get_cb_info(env, info, &count, values, NULL, NULL) != napi_ok || count < 2 || !are_limits(env, values[1], limits)
+        || napi_get_instance_data(env, &data) != napi_ok || data == NULL)
+        return NULL;
+    kept *k = data;
+    if (napi_get_value_string_utf8(env, values[0], (char *)k->source, KEPT_SOURCE, length) != napi_ok) return NULL;
+    return k;
+}
+
+/* Whether a string of this length in `source` isn't cut off: another character, of up to four bytes, and the byte 0 at the end would
+ * have fit. */
+static int is_whole(size_t length) {
+    return length + sizeof(uint32_t) < KEPT_SOURCE;
+}
+
+/* Moves so many bytes to a place before which the result is; the place after them. */
+static uint8_t *put(uint8_t *at, const void *from, size_t size) {
+    memmove(at, from, size);
+    return at + size;
+}
+
+/* Puts the complexities after the nodes, the texts after these and the counts last, at a multiple of four bytes; how many bytes the
+ * result has. */
+static size_t pack(kept *k, const packed_counts *counts) {
+    uint8_t *begin = (uint8_t *)k->nodes, *at = begin + counts->nodes * sizeof *k->nodes;
+    at = put(at, k->complexities, counts->operations * sizeof *k->complexities);
+    at = put(at, k->texts, counts->texts);
+    at = put(at, "\0\0\0", -counts->texts % sizeof(uint32_t));
+    return (size_t)(put(at, counts, sizeof *counts) - begin);
+}
+
+/* Parses the source that was read, of so many bytes; the size of the packed result, and 0 if there is none. */
+static size_t parse_kept(kept *k, size_t length, const package_limits *limits) {
+    size_t nodes, texts, operations = 0;
+    firthnapkin_error error;
+    uint32_t status = has_limit(&limits->sizes)
+        ? parse_complexities_on_stack(k->source, length, &limits->call, k->nodes, KEPT_NODES, &nodes, k->texts, KEPT_SOURCE, &texts,
+                                      k->complexities, KEPT_OPERATIONS, &operations, &error)
+        : parse_on_stack(k->source, length, &limits->call, k->nodes, KEPT_NODES, &nodes, k->texts, KEPT_SOURCE, &texts, &error);
+    if (status != FIRTHNAPKIN_OK || first_beyond(k->complexities, operations, &limits->sizes).operation < operations) return 0;
+    return pack(k, &(packed_counts){(uint32_t)nodes, (uint32_t)operations, (uint32_t)texts, (uint32_t)length});
+}
+
+static napi_value parse_packed(napi_env env, napi_callback_info info) {
+    package_limits limits;
+    size_t length, size;
+    napi_value result;
+    kept *k = kept_with(env, info, &length, &limits);
+    if (k == NULL) return failed(env, "parsePacked takes a string and limits");
+    size = is_whole(length) ? parse_kept(k, length, &limits) : 0;
+    if (size == 0) return NULL;
+    if (napi_create_string_utf16(env, (const char16_t *)k->nodes, size / sizeof(char16_t), &result) != napi_ok)
+        return failed(env, "the result was not made");
+    return result;
+}
+
+static napi_value is_document(napi_env env, napi_callback_info info) {
+    package_limits limits;
+    size_t length, operations = 0;
+    firthnapkin_error error;
+    napi_value result;
+    kept *k = kept_with(env, info, &length, &limits);
+    if (k == NULL) return failed(env, "isDocument takes a string and limits");
+    bool found = is_whole(length)
+        && parse_without_nodes(k->source, length, &limits, k->complexities, KEPT_OPERATIONS, &operations, &error) == FIRTHNAPKIN_OK
+        && operations <= KEPT_OPERATIONS && first_beyond(k->complexities, operations, &limits.sizes).operation == operations;
+    return napi_get_boolean(env, found, &result) == napi_ok ? result : failed(env, "the result was not made");
+}
+
 /* The names of the numbers from 0, as an array. */
 static napi_status names(napi_env env, const char *name_of(uint32_t), napi_value *result) {
     napi_value name;
@@ -166,7 +327,15 @@ static napi_status names(napi_env env, const char *name_of(uint32_t), napi_value
 
 NAPI_MODULE_INIT() {
     napi_value value;
+    kept *k = malloc(sizeof *k);
+    if (k == NULL || napi_set_instance_data(env, k, drop_kept, NULL) != napi_ok) {
+        free(k);
+        return failed(env, "memory ran out");
+    }
     if (!has(env, exports, "parse", napi_create_function(env, "parse", NAPI_AUTO_LENGTH, parse, NULL, &value), &value)
+        || !has(env, exports, "check", napi_create_function(env, "check", NAPI_AUTO_LENGTH, check, NULL, &value), &value)
+        || !has(env, exports, "parsePacked", napi_create_function(env, "parsePacked", NAPI_AUTO_LENGTH, parse_packed, NULL, &value), &value)
+        || !has(env, exports, "isDocument", napi_create_function(env, "isDocument", NAPI_AUTO_LENGTH, is_document, NULL, &value), &value)
         || !has(env, exports, "complexities", napi_create_function(env, "complexities", NAPI_AUTO_LENGTH, complexities, NULL, &value), &value)
         || !has(env, exports, "tokens", napi_create_function(env, "tokens", NAPI_AUTO_LENGTH, tokens, NULL, &value), &value)
         || !has(env, exports, "canonical", napi_create_function(env, "canonical", NAPI_AUTO_LENGTH, canonical, NULL, &value), &value)

@@ -90,7 +90,11 @@ export interface NodeParts {
   readonly children: NodeParts[];
 }
 
-/** A document: its parts by their names, and its nodes, each part before the parts in it. Each is made when one is read. */
+/**
+ * A document: its parts by their names, and its nodes, each part before the parts in it. Each is made when one is read. No later call
+ * changes it. It keeps its source alive, and takes at most 64 bytes for each node, at most 24 for each operation if there was a limit
+ * on them, and the values of its Strings and its types. The README says what it keeps of what is asked for.
+ */
 export interface Document extends Iterable<Node> {
   readonly source: string;
   /** The name of the source, if `parse` was given one. */
@@ -300,6 +304,12 @@ import { Options } from "./lib/limits.js";
 export { Options };
 
 /**
+ * Throws what `parse` throws if a source isn't a document within limits, and returns nothing otherwise. It is for a server to call
+ * before it parses a request: no document is built, so it takes less time than `parse`, and no memory for nodes.
+ */
+export function check(source: string, options?: Options): void;
+
+/**
  * The document that a source is. Throws a FirthnapkinError if it isn't one, a bracket is nested deeper, or a token is one too many,
  * before anything is built; at the first operation beyond a limit on operations, and with such a limit at a spread that one can't
  * be expanded with; a TypeError if the source or its name is no string, a limit no number, or the options are no object or
@@ -367,6 +377,19 @@ export function tokens(source: string, options?: TokenOptions): Tokens;
  * no object or have another name; an Error if memory runs out.
  */
 export function canonical(source: string, options?: CanonicalOptions): string;
+
+export interface GraphQLOptions {
+  /** graphql-js's module, as `require("graphql")`: nodes then have `loc`, of its classes, with the tokens of its lexer. */
+  graphql?: object;
+}
+
+/**
+ * A document as graphql-js 16 has it, a `DocumentNode`: equal to what its `parse` returns with the option `noLocation`, or to what it
+ * returns without if it is given its module. Throws a TypeError if it is given no document, or other options; with the module also
+ * what graphql-js's lexer throws, which refuses a number that a name follows directly. Each level of nesting is a call, as in
+ * graphql-js: JavaScript throws a RangeError if its stack is too small.
+ */
+export function toGraphQL(document: Document, options?: GraphQLOptions): any;
 
 /** The largest depth. */
 export const MAX_DEPTH: number;

@@ -4,9 +4,11 @@
 //     for (const field of parse("{ user(id: 4) { name } }").operation().selections) console.log(field.name, field.argument("id").value);
 "use strict";
 
-const { addon, allocate, limitsOf, nameOf, requireString } = require("./lib/calls");
+const { NO_OPTIONS, addon, limitsOf, nameOf, requireString } = require("./lib/calls");
 const { Document, Node } = require("./lib/document");
-const { FirthnapkinError, bytesOf, checked } = require("./lib/errors");
+const { FirthnapkinError } = require("./lib/errors");
+const { foundIn, requireDocument } = require("./lib/found");
+const { toGraphQL } = require("./lib/graphql");
 const { Token, Tokens, canonical, tokens } = require("./lib/lexer");
 const {
   Argument, Directive, Field, Fragment, FragmentSpread, InlineFragment, Operation, VariableDefinition,
@@ -16,16 +18,22 @@ const { EnumValue, Variable } = require("./lib/values");
 const { MAX_DEPTH, VERSION: version } = addon;
 
 /** The document that a source is; index.d.ts says what is thrown. */
-function parse(source, options = {}) {
+function parse(source, options = NO_OPTIONS) {
   requireString("source", source);
   const limits = limitsOf(options);
   const name = nameOf(options);
-  const bytes = bytesOf(source, name);
-  return new Document(source, name, bytes, checked(source, name, addon.parse(bytes, limits, allocate)));
+  return new Document(source, name, foundIn(source, name, limits));
+}
+
+/** Throws an error unless a source is a document within limits; index.d.ts says which. */
+function check(source, options = NO_OPTIONS) {
+  requireString("source", source);
+  const limits = limitsOf(options);
+  requireDocument(source, nameOf(options), limits);
 }
 
 // Node finds the names of a literal for `import { parse } from "firthnapkin"`.
 module.exports = {
-  parse, tokens, canonical, Document, Operation, Fragment, Field, FragmentSpread, InlineFragment, VariableDefinition, Directive,
+  check, parse, tokens, canonical, toGraphQL, Document, Operation, Fragment, Field, FragmentSpread, InlineFragment, VariableDefinition, Directive,
   Argument, EnumValue, Variable, Node, Tokens, Token, FirthnapkinError, MAX_DEPTH, version,
 };

@@ -1,7 +1,8 @@
-/* Refuses each request for memory of each call in turn, and of each call of bindings/whole.h: that one alone, or it and all
- * after it. The call reports that memory ran out, or returns what it returns with ample memory, and frees what it was given.
+/* Refuses each request for memory of each call in turn, and of each call of bindings/whole.h and bindings/check.h: that one
+ * alone, or it and all after it. The call reports that memory ran out, or returns what it returns with ample memory, and frees what it was given.
  * Linked with --wrap. */
 #define _GNU_SOURCE
+#include "../../bindings/check.h"
 #include "../../bindings/whole.h"
 #include "checks.h"
 #include <stdlib.h>
@@ -158,6 +159,20 @@ static answer whole_complexities(const char *source) {
     return answer_of(w, w.complexities_count);
 }
 
+/* Without limits on operations, and with one that most operations keep. */
+static answer checked_within(const char *source, uint32_t fields) {
+    size_limits sizes = {{fields, UINT32_MAX, UINT32_MAX, UINT32_MAX, UINT32_MAX}};
+    return (answer){.status = check_source((const uint8_t *)source, strlen(source), &DEFAULT, &sizes).status};
+}
+
+static answer checked(const char *source) {
+    return checked_within(source, UINT32_MAX);
+}
+
+static answer checked_operations(const char *source) {
+    return checked_within(source, 1000);
+}
+
 static answer whole_tokens(const char *source) {
     whole w = cut_whole((const uint8_t *)source, strlen(source), UINT32_MAX);
     return answer_of(w, w.tokens_count);
@@ -209,6 +224,9 @@ static void asks(answer (*call)(const char *), const char *source, long requests
 
 /* A count takes memory for the position of a token past the limit alone, in a source that isn't ASCII. A parse takes none of an
  * ASCII source, except for the words of an error and for a type with more modifiers than these. */
+#define EIGHT "{a}{a}{a}{a}{a}{a}{a}{a}"
+#define THIRTY_TWO EIGHT EIGHT EIGHT EIGHT
+
 static void takes_little(void) {
     asks(count, "{ a", 0);
     asks(count, "{ a }", 0);
@@ -221,6 +239,13 @@ static void takes_little(void) {
     asks(parse, "query($v: [T]){a}", 0);
     asks(parse, "query($v: [T!]){a}", 0);
     asks(parse, "query($v: [T]!){a}", 1);
+    /* A check has no nodes, and an array for many operations alone. */
+    asks(checked, THIRTY_TWO, 0);
+    asks(checked, THIRTY_TWO "{a}", 0);
+    with_refused(parse_complexities, THIRTY_TWO, 0, 0);
+    asks(checked_operations, THIRTY_TWO, asked);
+    with_refused(parse_complexities, THIRTY_TWO "{a}", 0, 0);
+    asks(checked_operations, THIRTY_TWO "{a}", 2 * asked + 1);
 }
 
 #define TEN(text) text text text text text text text text text text
@@ -243,6 +268,8 @@ int main(void) {
         "{ ...A b { ...B } } fragment A on T { a @c ...B } fragment B on T { b ...C } fragment C on T { c } query Q { ...C }",
         "{ ...A } fragment A on T { b { ...B } } fragment B on T { ...A }",
         LONG_ERROR,
+        /* More operations than a check has room for at first. */
+        THIRTY_TWO EIGHT,
     };
     for (size_t i = 0; i < sizeof sources / sizeof *sources; i++) {
         each(parse, sources[i]);
@@ -257,6 +284,8 @@ int main(void) {
         each(whole_measured, sources[i]);
         each(whole_measured_of_none, sources[i]);
         each(whole_complexities, sources[i]);
+        each(checked, sources[i]);
+        each(checked_operations, sources[i]);
         each(whole_tokens, sources[i]);
         each(whole_canonical, sources[i]);
         each(whole_excerpt, sources[i]);

@@ -2,7 +2,7 @@
 "use strict";
 
 const addon = require("../firthnapkin.node");
-const { LIMITS, SIZES, UNLIMITED } = require("./limits");
+const { LIMITS, SIZES } = require("./limits");
 
 const LARGEST_WORD = 2 ** 32 - 1;
 
@@ -61,18 +61,25 @@ function listed(names) {
 // The option that is no limit.
 const NAME = "name";
 
-// The numbers of the limits with these names, of which those that options don't have are the default ones. Options may have a name.
-function numbersOf(options, names) {
+// What a call has that is given no options.
+const NO_OPTIONS = Object.freeze({});
+
+// Options are an object with no other names than these.
+function requireOptions(options, names) {
   if (typeOf(options) !== "object") throw new TypeError(`options must be an object, not ${typeOf(options)}`);
-  const known = [...names, NAME];
-  for (const name of Reflect.ownKeys(options)) {
-    if (!known.includes(name)) throw new TypeError(`there is no option ${String(name)}, only ${listed(known)}`);
+  // Reflect.ownKeys lists both, and takes twice as long.
+  for (const own of [Object.getOwnPropertyNames(options), Object.getOwnPropertySymbols(options)]) {
+    for (const name of own) {
+      if (!names.includes(name)) throw new TypeError(`there is no option ${String(name)}, only ${listed(names)}`);
+    }
   }
-  return names.map((name) => {
-    const [standard, largest] = OPTIONS[name];
-    const value = options[name];
-    return value === undefined ? standard : integer(name, value, largest);
-  });
+}
+
+// The number of a limit, the default one if options don't have it.
+function numberOf(options, name) {
+  const limit = OPTIONS[name];
+  const value = options[name];
+  return value === undefined ? limit[0] : integer(name, value, limit[1]);
 }
 
 // The name of the source that options have, and null if they have none.
@@ -83,27 +90,28 @@ function nameOf(options) {
   return name;
 }
 
-// Limits as the library takes them, and those on sizes after them. In the words that have no limit 0 is none. No source has more of
+// Limits are passed as words: the library's own, words that have no limit and are 0, and those on sizes. No source has more of
 // anything than a word holds.
-function wordsOf(numbers, sizes) {
-  const words = allocated(() => new Uint32Array(addon.LIMITS_LENGTH + addon.SIZES_LENGTH));
-  words.set(numbers.map((number) => Math.min(number, LARGEST_WORD)));
-  words.set(sizes, addon.LIMITS_LENGTH);
+const NAMES = Object.keys(OPTIONS);
+const NAMES_OF_OPTIONS = [...NAMES, NAME];
+const WORDS = [...Object.keys(LIMITS).keys(), ...Object.keys(SIZES).map((_, i) => addon.LIMITS_LENGTH + i)];
+const DEFAULTS = new Uint32Array(addon.LIMITS_LENGTH + addon.SIZES_LENGTH);
+NAMES.forEach((name, i) => { DEFAULTS[WORDS[i]] = Math.min(OPTIONS[name][0], LARGEST_WORD); });
+
+// The words of options. Those that are undefined have their default.
+function limitsOf(options) {
+  if (options === NO_OPTIONS) return DEFAULTS;
+  requireOptions(options, NAMES_OF_OPTIONS);
+  const words = new Uint32Array(DEFAULTS);
+  for (let i = 0; i < NAMES.length; i++) {
+    const value = options[NAMES[i]];
+    if (value !== undefined) words[WORDS[i]] = Math.min(integer(NAMES[i], value, OPTIONS[NAMES[i]][1]), LARGEST_WORD);
+  }
   return words;
 }
 
-const OWN = Object.keys(LIMITS).length;
-
-// The limits of options.
-function limitsOf(options) {
-  const numbers = numbersOf(options, Object.keys(OPTIONS));
-  return wordsOf(numbers.slice(0, OWN), numbers.slice(OWN));
-}
-
-// The loosest limits, of brackets nested this deep.
-function loosest(depth) {
-  return wordsOf([depth, Infinity], new Array(addon.SIZES_LENGTH).fill(UNLIMITED));
-}
+// The loosest limits.
+const LOOSEST = limitsOf({ depth: addon.MAX_DEPTH });
 
 // The lines around a byte of a source that is encoded.
 function excerptAt(bytes, byte) {
@@ -112,4 +120,6 @@ function excerptAt(bytes, byte) {
   return Buffer.from(texts).utf8Slice();
 }
 
-module.exports = { addon, allocate, allocated, encoded, excerptAt, limitsOf, loosest, nameOf, namesOf, numbersOf, requireString, typeOf };
+module.exports = {
+  LOOSEST, NO_OPTIONS, addon, allocate, allocated, encoded, excerptAt, limitsOf, nameOf, namesOf, numberOf, requireOptions, requireString,
+};

@@ -3,8 +3,9 @@
 
 const { inspect } = require("util");
 
-const { addon, allocate, excerptAt, namesOf, requireString } = require("./calls");
+const { addon, allocate, encoded, excerptAt, namesOf, requireString } = require("./calls");
 const { checked } = require("./errors");
+const { WORDS_OF_NODE } = require("./found");
 const { Fragment, Operation } = require("./parts");
 const { Units } = require("./positions");
 const { floatOf, integerOf } = require("./values");
@@ -17,7 +18,6 @@ const WITHOUT_NAME = new Set(["type", "null", "int", "largeInt", "float", "strin
 
 // The numbers of 32 bits of a node, in their order: its kind, its descendants, the start's and the end's index, line, column
 // and byte, the name's bytes, the value's low and high half, the value's length, and one without a meaning.
-const WORDS = 16;
 const START = 2;
 const END = 6;
 const NAME = 10;
@@ -28,8 +28,7 @@ const LENGTH = 14;
 const NUMBERS = ["fields", "aliases", "directives", "rootFields", "depth"];
 
 // How large each operation is, by the index of its node.
-function byOperation(complexities) {
-  const words = new Uint32Array(complexities);
+function byOperation(words) {
   const found = new Map();
   for (let at = 0; at < words.length; at += 1 + NUMBERS.length)
     found.set(words[at], Object.freeze(Object.fromEntries(NUMBERS.map((name, i) => [name, words[at + 1 + i]]))));
@@ -43,12 +42,12 @@ class Node {
 
   constructor(document, index) {
     this.#document = document;
-    this.#at = WORDS * index;
+    this.#at = WORDS_OF_NODE * index;
     this.index = index;
   }
 
   #word(number) {
-    return this.#document.words[this.#at + number];
+    return this.#document.word(this.#at + number);
   }
 
   get document() {
@@ -64,11 +63,11 @@ class Node {
   }
 
   get start() {
-    return this.#document.units.position(this.#document.words, this.#at + START);
+    return this.#document.position(this.#at + START);
   }
 
   get end() {
-    return this.#document.units.position(this.#document.words, this.#at + END);
+    return this.#document.position(this.#at + END);
   }
 
   get line() {
@@ -90,8 +89,7 @@ class Node {
   get name() {
     const from = this.#word(NAME);
     const to = this.#word(NAME + 1);
-    // A name is ASCII.
-    return from === to || WITHOUT_NAME.has(this.kind) ? null : this.#document.bytes.latin1Slice(from, to);
+    return from === to || WITHOUT_NAME.has(this.kind) ? null : this.#document.nameAt(from, to);
   }
 
   get value() {
@@ -111,7 +109,7 @@ class Node {
       case "type":
         return this.#document.texts.utf8Slice(from, to);
       case "fragmentDefinition":
-        return this.#document.bytes.latin1Slice(from, to);
+        return this.#document.nameAt(from, to);
       case "enum":
       case "variable":
         return this.name;
@@ -160,26 +158,47 @@ function valueOrText(node) {
 
 /** A document's nodes, each part before the parts in it. */
 class Document {
+  #found;
+  #bytes;
   #units;
   #parents;
-  #complexities;
   #byOperation;
 
-  constructor(source, sourceName, bytes, { parts, texts, complexities }) {
+  constructor(source, sourceName, found) {
     this.source = source;
     this.sourceName = sourceName;
-    this.#complexities = complexities;
-    Object.defineProperties(this, {
-      bytes: { value: bytes },
-      words: { value: new Uint32Array(parts) },
-      texts: { value: texts },
-    });
-    this.length = this.words.length / WORDS;
+    this.#found = found;
+    this.length = found.nodes;
+  }
+
+  // A number of the nodes.
+  word(index) {
+    return this.#found.word(index);
+  }
+
+  get texts() {
+    return this.#found.texts;
+  }
+
+  // The source as the library read it.
+  get bytes() {
+    this.#bytes ??= encoded(this.source);
+    return this.#bytes;
+  }
+
+  // The name from a byte of the source to another. It is ASCII; what is before it may be longer in bytes than in units.
+  nameAt(from, to) {
+    return this.#found.sourceBytes === this.source.length ? this.source.slice(from, to) : this.bytes.latin1Slice(from, to);
   }
 
   get units() {
     this.#units ??= new Units(this.source);
     return this.#units;
+  }
+
+  // The position whose numbers begin there.
+  position(at) {
+    return this.units.position(this.word(at), this.word(at + 1), this.word(at + 2), this.word(at + 3));
   }
 
   // The index of each node's parent, and -1 of a definition.
@@ -190,7 +209,7 @@ class Document {
       for (let index = 0; index < this.length; index++) {
         while (around[around.length - 1][1] === index) around.pop();
         parents[index] = around[around.length - 1][0];
-        around.push([index, index + 1 + this.words[WORDS * index + 1]]);
+        around.push([index, index + 1 + this.word(WORDS_OF_NODE * index + 1)]);
       }
       this.#parents = parents;
     }
@@ -200,9 +219,12 @@ class Document {
   // How large the operation of a node is. They are found when one is first asked for, unless the source was parsed within limits
   // on them.
   complexityOf(index) {
-    this.#complexities ??= checked(this.source, this.sourceName, addon.complexities(this.bytes, allocate)).complexities;
-    this.#byOperation ??= byOperation(this.#complexities);
+    this.#byOperation ??= byOperation(this.#found.complexities ?? this.#complexitiesOfSource());
     return this.#byOperation.get(index);
+  }
+
+  #complexitiesOfSource() {
+    return new Uint32Array(checked(this.source, this.sourceName, addon.complexities(this.bytes, allocate)).complexities);
   }
 
   node(index) {
@@ -253,4 +275,4 @@ class Document {
   }
 }
 
-module.exports = { Document, Node };
+module.exports = { Document, KINDS, LENGTH, NAME, Node, VALUE };

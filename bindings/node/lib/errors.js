@@ -68,27 +68,32 @@ function errorOf(source, numbers, texts, name) {
     kind: KINDS[words[0]] ?? TOO_LARGE,
     detail,
     character: WITH_CHARACTER.includes(detail) ? String.fromCodePoint(words[2]) : null,
-    start: units.position(words, 3),
-    end: units.position(words, 7),
+    start: units.position(...words.subarray(3, 7)),
+    end: units.position(...words.subarray(7, 11)),
   };
   let reason = Buffer.from(texts).utf8Slice();
   if (found.kind === "unexpectedToken") reason += wordsOn(source, found.start.index, found.end.index);
   return new FirthnapkinError(reason, found, source, name);
 }
 
-// The source as bytes, or an error if half of a surrogate pair is alone. The name is the source's, or null.
-function bytesOf(source, name) {
+// Throws an error if half of a surrogate pair is alone. The name is the source's, or null.
+function requireWellFormed(source, name) {
   const alone = source.isWellFormed?.() ? -1 : source.search(/\p{Surrogate}/u);
   if (alone >= 0) throw surrogate(source, alone, name);
+}
+
+// The source as bytes, or that error.
+function bytesOf(source, name) {
+  requireWellFormed(source, name);
   return encoded(source);
 }
 
 // What a call found, or an error.
 function checked(source, name, { status, parts, texts, complexities }) {
-  if (status === "ok") return { parts, texts: Buffer.from(texts), complexities };
+  if (status === "ok") return { parts, texts, complexities };
   if (WITH_ERROR.includes(status)) throw errorOf(source, parts, texts, name);
   // No string has 4 GiB.
   throw new Error(`the library returned ${status}`);
 }
 
-module.exports = { FirthnapkinError, bytesOf, checked };
+module.exports = { FirthnapkinError, bytesOf, checked, requireWellFormed };

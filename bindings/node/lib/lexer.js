@@ -1,7 +1,7 @@
 // The tokens of a source, and its canonical text.
 "use strict";
 
-const { addon, allocate, excerptAt, nameOf, namesOf, numbersOf, requireString } = require("./calls");
+const { addon, allocate, excerptAt, nameOf, namesOf, numberOf, requireOptions, requireString } = require("./calls");
 const { bytesOf, checked } = require("./errors");
 const { Units } = require("./positions");
 
@@ -30,11 +30,11 @@ class Token {
   }
 
   get start() {
-    return this.#tokens.units.position(this.#tokens.words, this.#at + START);
+    return this.#tokens.position(this.#at + START);
   }
 
   get end() {
-    return this.#tokens.units.position(this.#tokens.words, this.#at + END);
+    return this.#tokens.position(this.#at + END);
   }
 
   get line() {
@@ -74,6 +74,12 @@ class Tokens {
     return this.#units;
   }
 
+  // The position whose numbers begin there.
+  position(at) {
+    const { words } = this;
+    return this.units.position(words[at], words[at + 1], words[at + 2], words[at + 3]);
+  }
+
   token(index) {
     if (!Number.isInteger(index) || index < 0 || index >= this.length) throw new RangeError(`there is no token ${index}`);
     return new Token(this, index);
@@ -87,7 +93,8 @@ class Tokens {
 /** The tokens of a source; index.d.ts says what is thrown. */
 function tokens(source, options = {}) {
   requireString("source", source);
-  const [maxTokens] = numbersOf(options, ["maxTokens"]);
+  requireOptions(options, ["maxTokens", "name"]);
+  const maxTokens = numberOf(options, "maxTokens");
   const name = nameOf(options);
   const bytes = bytesOf(source, name);
   return new Tokens(source, bytes, checked(source, name, addon.tokens(bytes, maxTokens, allocate)).parts);
@@ -96,9 +103,9 @@ function tokens(source, options = {}) {
 /** The canonical text of a source; index.d.ts says what is thrown. */
 function canonical(source, options = {}) {
   requireString("source", source);
-  numbersOf(options, []);
+  requireOptions(options, ["name"]);
   const name = nameOf(options);
-  return checked(source, name, addon.canonical(bytesOf(source, name), allocate)).texts.utf8Slice();
+  return Buffer.from(checked(source, name, addon.canonical(bytesOf(source, name), allocate)).texts).utf8Slice();
 }
 
 module.exports = { Token, Tokens, canonical, tokens };

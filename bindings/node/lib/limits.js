@@ -32,4 +32,4 @@ function declaration() {
   return `export interface Options {\n${members.map(([name, type, about]) => `  /** ${about} */\n  ${name}?: ${type};\n`).join("")}}\n`;
 }
 
-module.exports = { LIMITS, SIZES, UNLIMITED, declaration };
+module.exports = { LIMITS, SIZES, declaration };

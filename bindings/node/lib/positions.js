@@ -35,10 +35,10 @@ class Units {
     return index + low;
   }
 
-  // The position whose numbers begin there: an index, a line, a column and a byte.
-  position(words, at) {
-    const index = this.before(words[at]);
-    return { index, line: words[at + 1], column: index - this.before(words[at] - words[at + 2]), byte: words[at + 3] };
+  // The position of an index and a column that count characters.
+  position(characters, line, column, byte) {
+    const index = this.before(characters);
+    return { index, line, column: index - this.before(characters - column), byte };
   }
 }
 

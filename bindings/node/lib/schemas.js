@@ -1,7 +1,7 @@
 // What is said of an unexpected token that begins a definition, or the description of one.
 "use strict";
 
-const { addon, allocate, encoded, loosest } = require("./calls");
+const { LOOSEST, addon, allocate, encoded } = require("./calls");
 
 // What is said of a schema, which this parser doesn't read, and of the description of an operation or a fragment.
 const SCHEMA = ": this is a schema's definition, not a request's";
@@ -13,8 +13,6 @@ const WORDS = new Map([
   ...["type", "schema", "extend", "directive", "scalar", "interface", "union", "enum", "input"].map((token) => [token, SCHEMA]),
   ...["query", "mutation", "subscription", "fragment", "{"].map((token) => [token, DESCRIPTION]),
 ]);
-
-const LOOSEST = loosest(addon.MAX_DEPTH);
 
 // The bytes at which an error begins and ends, among its numbers.
 const [START_BYTE, END_BYTE] = [6, 10];
@@ -29,7 +27,7 @@ function firstToken(bytes) {
 
 // Whether a definition may come after a source that is encoded: it is a document, or has no tokens.
 function mayGoOn(bytes) {
-  if (addon.parse(bytes, LOOSEST, allocate).status === "ok") return true;
+  if (addon.check(bytes, LOOSEST, allocate).status === "ok") return true;
   const { status, texts } = addon.canonical(bytes, allocate);
   return status === "ok" && texts.byteLength === 0;
 }

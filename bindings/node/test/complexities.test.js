@@ -72,7 +72,7 @@ test("the numbers are the same whether they are found by the parse or later", ()
 
 test("a number that 32 bits don't hold is the largest of them", () => {
   for (const [count, fields] of [[1, 1], [31, 2 ** 31 - 1], [32, LARGEST], [33, LARGEST], [65, LARGEST]])
-    assert.deepStrictEqual(numbersOf(parse(doubled(count))), [[fields, 0, 0, fields, 1]]);
+    for (const options of [{}, { maxAliases: 0 }]) assert.deepStrictEqual(numbersOf(parse(doubled(count), options)), [[fields, 0, 0, fields, 1]]);
 });
 
 test("the numbers can't be changed", () => {
@@ -82,29 +82,32 @@ test("the numbers can't be changed", () => {
 });
 
 // How many calls of the library a parse and the numbers of both operations take.
-function calls(options) {
-  const own = { parse: addon.parse, complexities: addon.complexities };
-  const counts = { parse: 0, complexities: 0 };
+function calls(source, options) {
+  const own = { parse: addon.parse, parsePacked: addon.parsePacked, complexities: addon.complexities };
+  const counts = { parse: 0, parsePacked: 0, complexities: 0 };
   for (const name of Object.keys(own))
     addon[name] = (...words) => {
       counts[name]++;
       return own[name](...words);
     };
   try {
-    const document = parse(TWO, options);
+    const document = parse(source, options);
     assert.strictEqual(counts.complexities, 0);
     for (let i = 0; i < 2; i++) assert.deepStrictEqual(numbersOf(document), NUMBERS);
   } finally {
     Object.assign(addon, own);
   }
-  return [counts.parse, counts.complexities];
+  return [counts.parsePacked, counts.parse, counts.complexities];
 }
 
 test("the library is called once more if nothing was limited, and not at all if something was", () => {
-  assert.deepStrictEqual(calls({}), [1, 1]);
-  for (const name of SIZES) {
-    assert.deepStrictEqual(calls({ [name]: undefined }), [1, 1]);
-    assert.deepStrictEqual(calls({ [name]: 50 }), [1, 0]);
+  // A large source is parsed in memory of its own.
+  for (const [source, large] of [[TWO, 0], [TWO + " ".repeat(20000), 1]]) {
+    assert.deepStrictEqual(calls(source, {}), [1, large, 1]);
+    for (const name of SIZES) {
+      assert.deepStrictEqual(calls(source, { [name]: undefined }), [1, large, 1]);
+      assert.deepStrictEqual(calls(source, { [name]: 50 }), [1, large, 0]);
+    }
   }
 });
 

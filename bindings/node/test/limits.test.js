@@ -32,7 +32,7 @@ test("each limit goes to its word, and the words that no limit has are 0", () =>
     [{ depth: 1000, maxTokens: LARGEST_WORD - 1 }, 1000, LARGEST_WORD - 1],
     ...[undefined, LARGEST_WORD, 2 ** 32, 2 ** 32 + 5, Number.MAX_SAFE_INTEGER].map((maxTokens) => [{ maxTokens }, 200, LARGEST_WORD]),
   ]) {
-    const [[, limits]] = given("parse", () => parse("{a}", options));
+    const [[, limits]] = given("parsePacked", () => parse("{a}", options));
     assert.deepStrictEqual(limits, Uint32Array.of(depth, most, 0, 0, 0, 0, 0, 0, ...NO_SIZES));
   }
 });
@@ -41,7 +41,7 @@ test("each limit on operations goes to its word, and no limit is the largest wor
   SIZES.forEach((name, i) => {
     for (const [limit, wanted] of [[undefined, LARGEST_WORD], [0, 0], [7, 7], [LARGEST_WORD - 1, LARGEST_WORD - 1]]) {
       const sizes = NO_SIZES.map((word, k) => (k === i ? wanted : word));
-      const [[, limits]] = given("parse", () => parse("{a}", { [name]: limit }));
+      const [[, limits]] = given("parsePacked", () => parse("{a}", { [name]: limit }));
       assert.deepStrictEqual(limits, Uint32Array.of(200, LARGEST_WORD, 0, 0, 0, 0, 0, 0, ...sizes), name);
     }
     for (const limit of [-1, 1.5, NaN, Infinity, LARGEST_WORD, 2 ** 32, Number.MAX_SAFE_INTEGER])
@@ -56,8 +56,11 @@ test("the number of tokens alone", () => {
 });
 
 test("what is before a schema's definition is parsed within the loosest limits", () => {
-  const found = given("parse", () => parse("{a} type", { depth: 5, maxTokens: 9 })).map((words) => Array.from(words[1]));
-  assert.deepStrictEqual(found, [[5, 9, 0, 0, 0, 0, 0, 0, ...NO_SIZES], [1000, LARGEST_WORD, 0, 0, 0, 0, 0, 0, ...NO_SIZES]]);
+  const run = () => parse("{a} type", { depth: 5, maxTokens: 9 });
+  for (const [name, depth, most] of [["parsePacked", 5, 9], ["parse", 5, 9], ["check", 1000, LARGEST_WORD]]) {
+    const found = given(name, run).map((words) => Array.from(words[1]));
+    assert.deepStrictEqual(found, [[depth, most, 0, 0, 0, 0, 0, 0, ...NO_SIZES]], name);
+  }
 });
 
 test("limits are those of one call", () => {

@@ -106,15 +106,15 @@ test("memory that JavaScript can't allocate", () => {
         if (typeof words[0] !== "object") throw new RangeError("Array buffer allocation failed");
         return new.target ? new own(...words) : own(...words);
       };
-      for (const source of ["{ a }", "{ ) }", "{ \u{1d11e} }"]) {
-        try { parse(source).node(1).start; } catch (error) { results.push(error.name + ": " + error.message); }
+      for (const source of ["{ a }", "{ ) }", "{ \u{1d11e} }", "{ a #\u{1d11e}\\n }", "{ a #" + ".".repeat(20000) + "\\n }"]) {
+        try { const node = parse(source).node(1); node.name; node.start; node.excerpt; } catch (error) { results.push(error.name + ": " + error.message); }
       }
       object[name] = own;
     }
     console.log(JSON.stringify(results), parse("{ a }").length);
   `;
   const lines = written(program).trim();
-  assert.strictEqual(lines, `${JSON.stringify(new Array(9).fill("Error: memory ran out"))} 2`);
+  assert.strictEqual(lines, `${JSON.stringify(new Array(15).fill("Error: memory ran out"))} 2`);
 });
 
 test("the addon takes no other arguments", () => {
@@ -123,10 +123,14 @@ test("the addon takes no other arguments", () => {
   const source = Buffer.from("{ a }");
   const limits = Uint32Array.of(5, 5, 0, 0, 0, 0, 0, 0, ...new Array(5).fill(2 ** 32 - 1));
   assert.strictEqual(addon.parse(source, limits, allocate).parts.byteLength, 128);
+  assert.strictEqual(addon.check(source, limits, allocate).parts.byteLength, 0);
+  assert.deepStrictEqual([addon.parsePacked("{ a }", limits).length, addon.isDocument("{ a }", limits)], [72, true]);
   const others = [5, 5n, "5", null, undefined, {}, Array.from(limits), limits.subarray(1), new Uint32Array(8), new Uint32Array(14), new Uint32Array(0)];
   others.push(limits.buffer, new Int32Array(13), new Float32Array(13), new Uint8Array(13), new Uint8Array(52), new DataView(limits.buffer));
   for (const words of [[], [source], [source, limits], ["{ a }", limits, allocate], ...others.map((other) => [source, other, allocate])])
-    assert.throws(() => addon.parse(...words), { message: "parse takes a buffer, limits and a function" });
+    for (const name of ["parse", "check"]) assert.throws(() => addon[name](...words), { message: `${name} takes a buffer, limits and a function` });
+  for (const words of [[], ["{ a }"], [source, limits], [5, limits], [null, limits], ...others.map((other) => ["{ a }", other])])
+    for (const name of ["parsePacked", "isDocument"]) assert.throws(() => addon[name](...words), { message: `${name} takes a string and limits` });
   for (const other of [5, () => 5, () => new ArrayBuffer(0), (size) => new ArrayBuffer(size + 1), (size) => Buffer.alloc(size)])
     assert.throws(() => addon.parse(source, limits, other), { message: "the result was not made" });
   // A depth out of range is refused by the library, and so is a word that has no limit. A number out of range is the largest one.

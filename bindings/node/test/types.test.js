@@ -10,10 +10,13 @@ const { inspect } = require("util");
 const firthnapkin = require("..");
 const { declaration } = require("../lib/limits");
 
-const { parse, tokens, canonical, FirthnapkinError } = firthnapkin;
+const { check, parse, tokens, canonical, FirthnapkinError } = firthnapkin;
 
 // What a program may find at run time and has no use for.
-const INTERNAL = { Document: ["units", "parents", "between", "complexityOf"], Tokens: ["units"] };
+const INTERNAL = {
+  Document: ["word", "texts", "bytes", "nameAt", "units", "position", "parents", "between", "complexityOf"],
+  Tokens: ["units", "position"],
+};
 
 const [index, ofLimits] = ["index.d.ts", "lib/limits.d.ts"].map((name) => fs.readFileSync(path.join(__dirname, "..", name), "utf8"));
 const text = (index + ofLimits).replace(/\/\*[^]*?\*\//g, "");
@@ -76,12 +79,13 @@ function isOf(alternative, value, where) {
   if (unions.has(alternative)) return has(unions.get(alternative), value, alternative);
   // Those that contain others are compared one by one, below.
   if (CLASSES.includes(alternative)) return value instanceof firthnapkin[alternative];
-  if (alternative === "undefined") return value === undefined;
+  if (alternative === "any") return true;
+  if (["undefined", "void"].includes(alternative)) return value === undefined;
   if (alternative === "ObjectValue")
     return typeof value === "object" && value !== null && Object.getPrototypeOf(value) === null
       && Object.values(value).every((item) => has("Value", item, where));
   if (objects.has(alternative)) return hasMembers(objects.get(alternative), value, alternative);
-  assert.ok(["boolean", "number", "bigint", "string"].includes(alternative), `${alternative} is no type that is known here`);
+  assert.ok(["boolean", "number", "bigint", "string", "object"].includes(alternative), `${alternative} is no type that is known here`);
   return typeof value === alternative;
 }
 
@@ -179,7 +183,7 @@ test("what is exported is what index.d.ts says", () => {
   for (const [name, { parameters, type }] of functions) {
     const required = parameters.split(",").filter((word) => !word.includes("?"));
     assert.strictEqual(firthnapkin[name].length, required.length, name);
-    assert.ok(has(type, firthnapkin[name]("{ a }"), name), name);
+    assert.ok(has(type, firthnapkin[name](name === "toGraphQL" ? parse("{ a }") : "{ a }"), name), name);
   }
   assert.deepStrictEqual(classes, ["EnumValue", "Variable", "FirthnapkinError"]);
   // The classes of what is returned are there for `instanceof`.
@@ -199,7 +203,9 @@ test("limits.d.ts is of the list of limits, and index.d.ts exports its type", ()
 
 test("the options are those of index.d.ts", () => {
   for (const [type, call, wanted] of [
-    ["Options", parse, ["depth", "maxAliases", "maxDirectives", "maxFieldDepth", "maxFields", "maxRootFields", "maxTokens", "name"]],
+    ...[parse, check].map((call) => [
+      "Options", call, ["depth", "maxAliases", "maxDirectives", "maxFieldDepth", "maxFields", "maxRootFields", "maxTokens", "name"],
+    ]),
     ["TokenOptions", tokens, ["maxTokens", "name"]], ["CanonicalOptions", canonical, ["name"]],
   ]) {
     const options = objects.get(type);
@@ -213,6 +219,16 @@ test("the options are those of index.d.ts", () => {
         else assert.throws(run, TypeError);
       }
     }
+  }
+});
+
+test("the module that toGraphQL is given", () => {
+  const { type, isOptional } = objects.get("GraphQLOptions").get("graphql");
+  assert.deepStrictEqual([isOptional, functions.get("toGraphQL").parameters], [true, "document: Document, options?: GraphQLOptions"]);
+  // graphql-js itself is given in other tests.
+  for (const [graphql, isObject] of [[{}, true], [5, false], ["graphql", false], [true, false]]) {
+    assert.strictEqual(has(type, graphql, "GraphQLOptions.graphql"), isObject);
+    assert.throws(() => firthnapkin.toGraphQL(parse("{ a }"), { graphql }), TypeError);
   }
 });
 

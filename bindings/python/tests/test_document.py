@@ -4,6 +4,7 @@ import copy
 import pickle
 import random
 import sys
+import tracemalloc
 import unittest
 from typing import List, Optional
 
@@ -161,6 +162,34 @@ class Nodes(unittest.TestCase):
         text = ("{" + "a " * 1000000 + "}").encode()
         for call in (lambda: firthnapkin._parser.parse(text, packed(200, 2**32 - 1)), lambda: firthnapkin._parser.excerpt(text, 1000000)):
             self.assertLess(longest_wait(call), 0.5)
+
+
+class Memory(unittest.TestCase):
+    def taken(self, text: str, is_measured: bool) -> int:
+        """The bytes that a document keeps besides its text, by Python's own count."""
+        tracemalloc.start()
+        try:
+            before = tracemalloc.get_traced_memory()[0]
+            document = parse(text, max_fields=10**6) if is_measured else parse(text)
+            taken = tracemalloc.get_traced_memory()[0] - before
+            self.assertEqual(document.text, text)
+            return taken
+        finally:
+            tracemalloc.stop()
+
+    def test_what_is_kept(self) -> None:
+        """64 bytes per node, the text in UTF-8, the texts of strings and types, and 24 per operation that is measured."""
+        for text, nodes, texts, operations in (
+            ("{" + "a " * 10_000 + "}", 10_001, 0, 1),
+            ('{ a(b: "' + "é" * 5_000 + '") }', 5, 10_000, 1),
+            ("query ($v: [ " + " " * 5_000 + "T ! ]) { a }", 5, 4, 1),
+            ("{a}" * 1_000, 2_000, 0, 1_000),
+        ):
+            wanted = 64 * nodes + len(text.encode()) + texts
+            parse(text, max_fields=10**6)
+            for is_measured, more in ((False, 0), (True, 24 * operations)):
+                # The objects themselves take some hundred bytes.
+                self.assertLess(abs(self.taken(text, is_measured) - wanted - more - 300), 300, (text[:20], is_measured))
 
 
 class Visits(unittest.TestCase):

@@ -7,7 +7,7 @@ from typing import Annotated, Any, Optional, Tuple
 from unittest import mock
 
 import firthnapkin
-from firthnapkin import MAX_DEPTH, canonical, parse, tokens
+from firthnapkin import MAX_DEPTH, canonical, check, parse, tokens
 from firthnapkin.__main__ import options_of
 from firthnapkin.limits import Limit, Limits, SizeLimit, has_sizes, packed, sizes_of
 from firthnapkin.parser import LIMITS
@@ -50,6 +50,8 @@ class Signatures(unittest.TestCase):
 
     def test_signatures(self) -> None:
         self.same(parse, ["name", "depth", "max_tokens", *SIZES])
+        self.same(check, ["name", "depth", "max_tokens", *SIZES])
+        self.assertEqual(list(inspect.signature(check).parameters), list(inspect.signature(parse).parameters))
         self.same(tokens, ["name", "max_tokens"])
         self.same(canonical, ["name"])
         self.assertEqual(list(inspect.signature(parse).parameters), ["source", "name", "depth", "max_tokens", *SIZES])

@@ -5,6 +5,7 @@ import ast
 import importlib.util
 import inspect
 import os
+import sys
 import typing
 import unittest
 from types import ModuleType
@@ -101,16 +102,20 @@ class Compared(unittest.TestCase):
         packed_limits, (kinds, returned) = firthnapkin._parser.packed, Stub(firthnapkin._parser).types_of("packed")
         usual, rows = bytes(range(52)), bytes((1, 0, 0, 0, 7, 0, 0, 0))
         given: List[Any] = [{"a": 5}, usual, ("a",), (None,), rows]
-        self.assertEqual([typing.get_origin(it) or it for it in kinds], [type(it) for it in given])
+        self.assertEqual([typing.get_origin(it) for it in typing.get_args(kinds[0])], [dict, tuple])
+        self.assertEqual([typing.get_origin(it) or it for it in kinds[1:]], [type(it) for it in given[1:]])
         self.assertTrue(is_of(packed_limits(*given), returned) and is_of(None, returned))
         for a, wanted in ((5, 5), (0, 0), (7, 7), (None, usual[4])):
-            self.assertEqual(
-                packed_limits({"a": a}, *given[1:]),
-                usual[:4] + bytes((wanted,)) + (usual[5:8] if a is None else b"\0\0\0") + usual[8:],
-            )
+            for form in ({"a": a}, (a,)):
+                self.assertEqual(
+                    packed_limits(form, *given[1:]),
+                    usual[:4] + bytes((wanted,)) + (usual[5:8] if a is None else b"\0\0\0") + usual[8:],
+                )
         for b in (8, -1, 2**32, 2**64 + 5, True, 5.0, "5"):
             self.assertIsNone(packed_limits({"a": b}, *given[1:]))
+            self.assertIsNone(packed_limits((b,), *given[1:]))
         self.assertIsNone(packed_limits({}, *given[1:]))
+        self.assertIsNone(packed_limits((), *given[1:]))
         for i, others in enumerate(
             ((None, []), (b"", usual[:-1]), (["a"], (), ("a", "b")), ([None], ()), (b"", rows[1:], rows * 2))
         ):
@@ -156,21 +161,62 @@ class Setup(unittest.TestCase):
     def setUp(self) -> None:
         require_graphql_core()
 
-    def test_wrong_classes(self) -> None:
+    def fresh(self) -> Any:
+        """Another object of the same extension, which isn't set up."""
         from firthnapkin import _graphql_core
+
+        spec = _graphql_core.__spec__
+        assert spec is not None and spec.loader is not None
+        module = importlib.util.module_from_spec(spec)
+        spec.loader.exec_module(module)
+        return module
+
+    def test_attributes_of_any_sort(self) -> None:
+        """A slot, also of a class that has it from another, and an attribute that is no slot are set as Python sets them."""
+        from firthnapkin._graphql_nodes import OPERATIONS, ROWS as rows
+        from firthnapkin._graphql_release import RULES
+        from graphql.language import ast as nodes
+
+        class Slots(nodes.NameNode):
+            __slots__ = ("first", "other")
+
+        class Properties(nodes.NameNode):
+            __slots__ = ("kept",)
+
+            @property
+            def value(self) -> Any:  # type: ignore[override]
+                return self.kept
+
+            @value.setter
+            def value(self, given: Any) -> None:
+                # It keeps whatever else it is given in a slot.
+                self.kept = [given] if isinstance(given, str) else given
+
+        for names, wanted in (
+            ((Slots, ("loc", "value"), 2), {"loc": None, "value": "abc"}),
+            ((Slots, ("loc", "value", "other", "first"), 2), {"loc": None, "value": "abc", "other": None, "first": None}),
+            ((Slots, ("other", "first"), 2), {"other": None, "first": "abc"}),
+            ((Slots, ("first", "other"), 2), {"first": None, "other": "abc"}),
+            ((Properties, ("loc", "value"), 2), {"loc": None, "value": ["abc"]}),
+        ):
+            module = self.fresh()
+            module.setup((names, *rows[1:]), OPERATIONS, RULES[1:])
+            for _ in range(3):
+                document = module.document(b"{ abc }", 7, packed(5), None, 9)
+                name = document.definitions[0].selection_set.selections[0].name
+                self.assertIs(type(name), names[0])
+                self.assertEqual({it: getattr(name, it) for it in wanted}, wanted)
+                # One reference is the object's, and one that of this call.
+                self.assertEqual(sys.getrefcount(document.definitions[0].selection_set), 2)
+                if names[0] is Properties:
+                    self.assertEqual(sys.getrefcount(name.value[0]), 2)
+
+    def test_wrong_classes(self) -> None:
         from firthnapkin._graphql_nodes import OPERATIONS, ROWS as rows
         from firthnapkin._graphql_release import RULES
         from graphql.language import ast as nodes
 
         rules = RULES[1:]
-
-        def fresh() -> Any:
-            """Another object of the same extension, which isn't set up."""
-            spec = _graphql_core.__spec__
-            assert spec is not None and spec.loader is not None
-            module = importlib.util.module_from_spec(spec)
-            spec.loader.exec_module(module)
-            return module
 
         names = ("loc", "value")
         for classes, error in [
@@ -180,10 +226,10 @@ class Setup(unittest.TestCase):
             (((nodes.NameNode, ["loc", "value"], 2), *rows[1:]), TypeError), (((nodes.NameNode, names * 7, 2), *rows[1:]), TypeError),
             ((nodes.NameNode, *rows[1:]), TypeError), (list(rows), TypeError),
         ]:  # fmt: skip
-            module = fresh()
+            module = self.fresh()
             self.assertRaises(error, module.setup, classes, OPERATIONS, rules)
             self.assertRaises(SystemError, module.document, b"{a}", 3, packed(5), None, 9)
             module.setup(rows, OPERATIONS, rules)
             self.assertIsInstance(module.document(b"{a}", 3, packed(5), None, 9), nodes.DocumentNode)
         for arguments in ((rows, (), rules), (rows, OPERATIONS, ()), (rows, OPERATIONS, (1, 2, "3")), (rows,)):
-            self.assertRaises(TypeError, fresh().setup, *arguments)
+            self.assertRaises(TypeError, self.fresh().setup, *arguments)

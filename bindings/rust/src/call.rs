@@ -1,10 +1,11 @@
 //! The calls of the library. All unsafe code is here, but for the look at the thread's stack.
 
 use crate::complexity::{self, Lengths, RawComplexity, Written};
-use crate::document::{Document, Position, RawNode};
+use crate::document::{Document, Position, RawNode, Tree};
 use crate::error::{Error, ErrorDetail, ErrorKind, SyntaxError};
 use crate::lexer::{RawToken, Tokens};
 use crate::{schemas, stack, Limits, MAX_DEPTH};
+use std::ptr;
 
 const OK: u32 = 0;
 const SYNTAX_ERROR: u32 = 1;
@@ -115,17 +116,40 @@ pub fn parse(source: &str) -> Result<Document<'_>, Error> {
 /// limit on operations is refused where it begins; with such a limit a spread that can't be expanded is refused, too, if an
 /// operation reaches it.
 pub fn parse_within(source: &str, limits: Limits) -> Result<Document<'_>, Error> {
+    within(
+        &limits,
+        || if limits.has_sizes() { complexity::measure(source, &limits) } else { parse_here(source, &limits) },
+    )
+}
+
+/// Whether a source is a document within these limits. If not, the error is that of [`parse_within`]. No document is built, and no
+/// memory is taken for one. A source with an operation beyond a limit is read twice.
+///
+/// ```
+/// use firthnapkin::{check, Limits};
+/// let limits = Limits { tokens: 1000, field_depth: 2, ..Limits::default() };
+/// assert!(check("{ user { name } }", limits).is_ok());
+/// assert!(check("{ user { friends { name } } }", limits).is_err());
+/// ```
+pub fn check(source: &str, limits: Limits) -> Result<(), Error> {
+    within(
+        &limits,
+        || if limits.has_sizes() { complexity::check(source, &limits) } else { check_here(source, &limits) },
+    )
+}
+
+/// Makes a call within these limits on a stack that suffices. With a depth above [`MAX_DEPTH`] it isn't made.
+fn within<R: Send>(limits: &Limits, call: impl FnOnce() -> Result<R, Error> + Send) -> Result<R, Error> {
     if limits.depth > MAX_DEPTH {
         return Err(Error::InvalidLimit);
     }
-    let is_measured = limits.sizes().iter().any(|&most| most != u32::MAX);
-    let call = || if is_measured { complexity::measure(source, &limits) } else { parse_here(source, &limits) };
     stack::with(limits.depth, call).unwrap_or(Err(Error::OutOfMemory))
 }
 
 /// How large the operations of a document are whose brackets are nested at most this deep.
 pub(crate) fn complexities(source: &str, depth: u32) -> Result<Vec<RawComplexity>, Error> {
-    stack::with(depth, || complexity::measure_alone(source, depth)).unwrap_or(Err(Error::OutOfMemory))
+    let limits = Limits { depth, ..Limits::default() };
+    stack::with(depth, || complexity::measure_alone(source, &limits)).unwrap_or(Err(Error::OutOfMemory))
 }
 
 /// The tokens of a source, the last of which is its end. White space, line ends, commas, comments and byte order marks are no
@@ -196,10 +220,33 @@ fn parse_here<'a>(source: &'a str, limits: &Limits) -> Result<Document<'a>, Erro
                 nodes.set_len(nodes_length);
                 texts.set_len(texts_length);
             }
-            return Ok(Document::new(source, nodes, text_of(texts), limits.depth));
+            return Ok(Document::new(source, Tree::new(nodes, text_of(texts), limits.depth)));
         }
         refused(status, source, &error)?;
     }
+}
+
+/// A check on this thread's stack, by a parse without room for nodes and texts. A document has a node, so its status is that a
+/// buffer is too small.
+fn check_here(source: &str, limits: &Limits) -> Result<(), Error> {
+    let raw = limits.words();
+    let (mut nodes_length, mut texts_length, mut error) = (0, 0, RawError::default());
+    // SAFETY: the capacities are 0, so the pointers may be null, and the stack is enough.
+    let status = unsafe {
+        firthnapkin_parse(
+            source.as_ptr(),
+            source.len(),
+            &raw,
+            ptr::null_mut(),
+            0,
+            &mut nodes_length,
+            ptr::null_mut(),
+            0,
+            &mut texts_length,
+            &mut error,
+        )
+    };
+    refused(status, source, &error)
 }
 
 /// Parses into these arrays on this thread's stack, as much as fits. Returns whether all did, and how many there are.

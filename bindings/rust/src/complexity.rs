@@ -1,7 +1,7 @@
 //! How large operations are.
 
 use crate::call::{at_first, measure_into, text_of, with_capacity};
-use crate::document::{Document, Node, RawNode};
+use crate::document::{Document, Node, RawNode, Tree};
 use crate::error::{Error, ErrorKind, SyntaxError};
 use crate::Limits;
 use std::fmt::Write;
@@ -79,7 +79,7 @@ pub(crate) fn measure<'a>(source: &'a str, limits: &Limits) -> Result<Document<'
         };
         let (is_whole, found) = measure_into(source, &limits.words(), &mut into)?;
         if is_whole {
-            let document = Document::new(source, into.nodes, text_of(into.texts), limits.depth);
+            let document = Document::new(source, Tree::new(into.nodes, text_of(into.texts), limits.depth));
             within(&document, &into.complexities, limits)?;
             return Ok(document.measured(into.complexities));
         }
@@ -87,9 +87,18 @@ pub(crate) fn measure<'a>(source: &'a str, limits: &Limits) -> Result<Document<'
     }
 }
 
+/// An error if a source isn't a document within limits, by calls on this thread's stack. The error of an operation beyond a limit
+/// is at its node, which another call finds.
+pub(crate) fn check(source: &str, limits: &Limits) -> Result<(), Error> {
+    let complexities = measure_alone(source, limits)?;
+    match first_beyond(&complexities, &limits.sizes()) {
+        Some(_) => measure(source, limits).map(drop),
+        None => Ok(()),
+    }
+}
+
 /// How large the operations of a document are, by a call on this thread's stack: no nodes are written, and no texts.
-pub(crate) fn measure_alone(source: &str, depth: u32) -> Result<Vec<RawComplexity>, Error> {
-    let limits = Limits { depth, ..Limits::default() };
+pub(crate) fn measure_alone(source: &str, limits: &Limits) -> Result<Vec<RawComplexity>, Error> {
     let mut length = at_first(source) / 8 + 4;
     loop {
         let mut into = Written { complexities: with_capacity(length)?, ..Written::default() };
@@ -102,16 +111,19 @@ pub(crate) fn measure_alone(source: &str, depth: u32) -> Result<Vec<RawComplexit
 }
 
 /// An error at the first operation that exceeds a limit, if one does.
-pub(crate) fn within(document: &Document<'_>, complexities: &[RawComplexity], limits: &Limits) -> Result<(), Error> {
+fn within(document: &Document<'_>, complexities: &[RawComplexity], limits: &Limits) -> Result<(), Error> {
     let sizes = limits.sizes();
-    for it in complexities {
+    let Some((it, i)) = first_beyond(complexities, &sizes) else { return Ok(()) };
+    let operation = document.node(it.definition as usize).expect("the library names an operation");
+    Err(too_large(operation, Limits::COUNTED[i], it.numbers.numbers()[i], sizes[i])?.into())
+}
+
+/// The first operation that exceeds a limit, and its first number that does.
+fn first_beyond<'c>(complexities: &'c [RawComplexity], sizes: &[u32; NUMBERS]) -> Option<(&'c RawComplexity, usize)> {
+    complexities.iter().find_map(|it| {
         let numbers = it.numbers.numbers();
-        if let Some(i) = (0..NUMBERS).find(|&i| numbers[i] > sizes[i]) {
-            let operation = document.node(it.definition as usize).expect("the library names an operation");
-            return Err(too_large(operation, Limits::COUNTED[i], numbers[i], sizes[i])?.into());
-        }
-    }
-    Ok(())
+        (0..NUMBERS).find(|&i| numbers[i] > sizes[i]).map(|i| (it, i))
+    })
 }
 
 /// The error of an operation that has this many of what is counted. The largest number stands for all above it, too.

@@ -3,7 +3,9 @@
 use crate::call;
 use crate::complexity::{self, Complexity, RawComplexity};
 use crate::error::Error;
+use crate::owned::OwnedDocument;
 use std::fmt;
+use std::mem::size_of;
 use std::sync::OnceLock;
 
 /// The kind of a node.
@@ -100,10 +102,9 @@ pub enum NodeValue<'d> {
     Number(&'d str),
 }
 
-/// A document: its parts by their names, and its nodes, each part before the parts in it.
+/// What a document has besides its source.
 #[derive(Clone)]
-pub struct Document<'a> {
-    source: &'a str,
+pub(crate) struct Tree {
     nodes: Vec<RawNode>,
     texts: String,
     /// How deep brackets may be nested.
@@ -112,23 +113,91 @@ pub struct Document<'a> {
     complexities: OnceLock<Vec<RawComplexity>>,
 }
 
+impl Tree {
+    pub(crate) fn new(nodes: Vec<RawNode>, texts: String, depth: u32) -> Self {
+        Tree { nodes, texts, depth, complexities: OnceLock::new() }
+    }
+
+    /// The tree without room that it doesn't use.
+    pub(crate) fn shrunk(mut self) -> Self {
+        self.nodes.shrink_to_fit();
+        self.texts.shrink_to_fit();
+        if let Some(complexities) = self.complexities.get_mut() {
+            complexities.shrink_to_fit();
+        }
+        self
+    }
+
+    /// How many bytes of the heap it takes.
+    pub(crate) fn heap_size(&self) -> usize {
+        let operations = self.complexities.get().map_or(0, Vec::capacity);
+        self.nodes.capacity() * size_of::<RawNode>() + self.texts.capacity() + operations * size_of::<RawComplexity>()
+    }
+}
+
+/// A tree of the document's own, or of an [`OwnedDocument`].
+#[derive(Clone)]
+enum Held<'a> {
+    Own(Tree),
+    Borrowed(&'a Tree),
+}
+
+/// A document: its parts by their names, and its nodes, each part before the parts in it.
+///
+/// It borrows its source. Its nodes take 64 bytes each, in an array with room for one for each four bytes of the source, or for all
+/// if there are more. [`into_owned`](Document::into_owned) gives back what isn't used.
+#[derive(Clone)]
+pub struct Document<'a> {
+    source: &'a str,
+    tree: Held<'a>,
+}
+
 impl<'a> Document<'a> {
-    pub(crate) fn new(source: &'a str, nodes: Vec<RawNode>, texts: String, depth: u32) -> Self {
-        Document { source, nodes, texts, depth, complexities: OnceLock::new() }
+    pub(crate) fn new(source: &'a str, tree: Tree) -> Self {
+        Document { source, tree: Held::Own(tree) }
+    }
+
+    pub(crate) fn borrowed(source: &'a str, tree: &'a Tree) -> Self {
+        Document { source, tree: Held::Borrowed(tree) }
+    }
+
+    /// A document to keep: it has a copy of the source, and no more memory than it needs.
+    ///
+    /// ```
+    /// let owned = firthnapkin::parse(&String::from("{ user { name } }"))?.into_owned();
+    /// assert_eq!(owned.document().operation(None).unwrap().text(), "{ user { name } }");
+    /// # Ok::<(), firthnapkin::Error>(())
+    /// ```
+    pub fn into_owned(self) -> OwnedDocument {
+        let tree = match self.tree {
+            Held::Own(tree) => tree,
+            Held::Borrowed(tree) => tree.clone(),
+        };
+        OwnedDocument::new(self.source, tree.shrunk())
     }
 
     /// The document with how large its operations are.
     pub(crate) fn measured(self, complexities: Vec<RawComplexity>) -> Self {
-        Document { complexities: complexities.into(), ..self }
+        // They aren't found yet.
+        let _ = self.tree().complexities.set(complexities);
+        self
+    }
+
+    fn tree(&self) -> &Tree {
+        match &self.tree {
+            Held::Own(tree) => tree,
+            Held::Borrowed(tree) => tree,
+        }
     }
 
     /// The complexity of the operation with the node of this index.
     pub(crate) fn complexity_of(&self, index: usize) -> Result<Complexity, Error> {
-        if let Some(found) = self.complexities.get() {
+        let tree = self.tree();
+        if let Some(found) = tree.complexities.get() {
             return Ok(complexity::of_operation(found, index));
         }
-        let found = call::complexities(self.source, self.depth)?;
-        Ok(complexity::of_operation(self.complexities.get_or_init(|| found), index))
+        let found = call::complexities(self.source, tree.depth)?;
+        Ok(complexity::of_operation(tree.complexities.get_or_init(|| found), index))
     }
 
     /// The source that was parsed.
@@ -138,27 +207,27 @@ impl<'a> Document<'a> {
 
     /// How many nodes there are.
     pub fn len(&self) -> usize {
-        self.nodes.len()
+        self.tree().nodes.len()
     }
 
     /// Always false: a document has a definition.
     pub fn is_empty(&self) -> bool {
-        self.nodes.is_empty()
+        self.tree().nodes.is_empty()
     }
 
     /// The node of this index, if there is one.
     pub fn node(&self, index: usize) -> Option<Node<'_, 'a>> {
-        (index < self.nodes.len()).then_some(Node { document: self, index })
+        (index < self.len()).then_some(Node { document: self, index })
     }
 
     /// The nodes, each part before the parts in it.
     pub fn nodes(&self) -> impl ExactSizeIterator<Item = Node<'_, 'a>> + DoubleEndedIterator {
-        (0..self.nodes.len()).map(move |index| Node { document: self, index })
+        (0..self.len()).map(move |index| Node { document: self, index })
     }
 
     /// The nodes of the operations and fragments.
     pub fn definitions(&self) -> Children<'_, 'a> {
-        Children { document: self, index: 0, end: self.nodes.len() }
+        Children { document: self, index: 0, end: self.len() }
     }
 }
 
@@ -211,7 +280,7 @@ pub struct Node<'d, 'a> {
 
 impl<'d, 'a> Node<'d, 'a> {
     fn raw(&self) -> &'d RawNode {
-        &self.document.nodes[self.index]
+        &self.document.tree().nodes[self.index]
     }
 
     pub(crate) fn document(&self) -> &'d Document<'a> {
@@ -276,7 +345,7 @@ impl<'d, 'a> Node<'d, 'a> {
 
     /// What a string means, and a type without spaces.
     pub(crate) fn meaning(&self) -> &'d str {
-        self.of_value(&self.document.texts)
+        self.of_value(&self.document.tree().texts)
     }
 
     /// The type condition of a fragment.
@@ -323,7 +392,7 @@ impl<'d, 'a> Node<'d, 'a> {
 impl PartialEq for Node<'_, '_> {
     /// Whether both are the same node of one document.
     fn eq(&self, other: &Self) -> bool {
-        std::ptr::eq(self.document, other.document) && self.index == other.index
+        std::ptr::eq(self.document.tree(), other.document.tree()) && self.index == other.index
     }
 }
 

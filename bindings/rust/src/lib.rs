@@ -13,16 +13,18 @@ mod complexity;
 mod document;
 mod error;
 mod lexer;
+mod owned;
 mod parts;
 mod schemas;
 mod stack;
 mod value;
 
-pub use call::{canonical, parse, parse_within, tokens, tokens_within};
+pub use call::{canonical, check, parse, parse_within, tokens, tokens_within};
 pub use complexity::Complexity;
 pub use document::{Children, Document, Kind, Node, NodeValue, Position};
 pub use error::{Error, ErrorDetail, ErrorKind, SyntaxError};
 pub use lexer::{Token, TokenKind, Tokens};
+pub use owned::OwnedDocument;
 pub use parts::{
     Argument, Directive, Field, Fragment, FragmentSpread, InlineFragment, Operation, OperationKind, Selection,
     VariableDefinition,
@@ -79,6 +81,11 @@ macro_rules! limits {
             /// The limits on operations, in the order of their numbers.
             pub(crate) fn sizes(&self) -> [u32; NUMBERS] {
                 [$(self.$size,)*]
+            }
+
+            /// Whether there is one on operations.
+            pub(crate) fn has_sizes(&self) -> bool {
+                self.sizes().iter().any(|&most| most != u32::MAX)
             }
         }
     };

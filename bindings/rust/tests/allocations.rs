@@ -1,7 +1,7 @@
 //! How much a call allocates: an array for the nodes and one for the texts, as often as the library is called. One for how large
-//! operations are only if these have a limit, or are asked for.
+//! operations are only if these have a limit, or are asked for. A check allocates that one alone.
 
-use firthnapkin::{parse, parse_within, Limits};
+use firthnapkin::{check, parse, parse_within, Limits};
 use std::alloc::{GlobalAlloc, Layout, System};
 use std::cell::Cell;
 
@@ -68,4 +68,19 @@ fn one_array_for_the_numbers_of_operations() {
     assert_eq!(found(&later), 0);
     // The library's own requests are the same for both, and not counted here.
     assert_eq!((without_limits, measured - before, first), (2, 3, 1));
+}
+
+#[test]
+fn a_check_builds_nothing() {
+    let counted = |source: &str, limits: Limits| {
+        let before = COUNT.get();
+        check(source, limits).unwrap();
+        COUNT.get() - before
+    };
+    let limited = Limits { fields: 1 << 20, ..Limits::default() };
+    for source in ["{ a }".to_string(), format!("{{{}}}", "a ".repeat(100_000)), "{a(b:\"c\")}".repeat(4)] {
+        assert_eq!((counted(&source, Limits::default()), counted(&source, limited)), (0, 1), "{source:.40}");
+    }
+    // More operations than there is room for at first.
+    assert_eq!(counted(&"{a}".repeat(1000), limited), 2);
 }

@@ -6,6 +6,7 @@
 """
 
 from ._parser import MAX_DEPTH, VERSION as __version__
+from .checks import check
 from .complexities import Complexity
 from .definitions import Fragment, Operation, VariableDefinition
 from .document import Document
@@ -23,5 +24,5 @@ __all__ = [
     "MAX_DEPTH", "Argument", "Complexity", "Directive", "Document", "EnumValue", "ErrorDetail", "ErrorKind", "Field",
     "FirthnapkinError", "Fragment", "FragmentSpread", "InlineFragment", "Kind", "Node", "Nodes", "Operation",
     "Position", "Selection", "Step", "SyntaxPart", "SyntaxParts", "Token", "TokenKind", "Tokens", "Value", "Variable",
-    "VariableDefinition", "Visitor", "__version__", "canonical", "parse", "tokens",
+    "VariableDefinition", "Visitor", "__version__", "canonical", "check", "parse", "tokens",
 ]  # fmt: skip

@@ -16,7 +16,7 @@ from typing import Any, Callable, Mapping, Optional, Sequence, Union
 from . import __version__
 from ._files import File, Unreadable, files_of, read
 from ._reports import Counts, Lines, Objects, Refusal
-from .document import Document
+from .checks import check
 from .errors import FirthnapkinError
 from .excerpts import excerpt_of
 from .lexer import canonical, tokens
@@ -108,9 +108,11 @@ class Progress:
         sys.stderr.flush()
 
 
-def request_of(written: bytes, limits: Mapping[str, Any]) -> Document:
-    """Returns the document of a file. Raises FirthnapkinError as parse does, and UnicodeDecodeError if it is not UTF-8."""
-    return parse(written.decode(), **limits)
+def request_of(written: bytes, limits: Mapping[str, Any]) -> str:
+    """Returns the text of a file that has a request. Raises the errors of check, and UnicodeDecodeError if it is not UTF-8."""
+    text = written.decode()
+    check(text, **limits)
+    return text
 
 
 def refusal_of(error: FirthnapkinError) -> Refusal:
@@ -148,7 +150,7 @@ class Run:
     def _read(self, file: File, progress: Progress) -> None:
         try:
             written = read(file)
-            document = request_of(written, self._limits)
+            text = request_of(written, self._limits)
         except FirthnapkinError as error:
             progress.clear()
             if error.is_schema and not self._options.strict:
@@ -160,19 +162,19 @@ class Run:
             progress.clear()
             self._fail(file, refusal_of_bytes(error))
         except (Unreadable, ValueError, MemoryError) as error:
-            # A ValueError of parse says that the text has 4 GiB or more.
+            # A ValueError of check says that the text has 4 GiB or more.
             progress.clear()
             self._counts.unreadable += 1
             self._report.unreadable(file.name, str(error) or "memory ran out")
         else:
             self._counts.passed += 1
-            self._write(file.name, document, progress)
+            self._write(file.name, text, progress)
 
     def _fail(self, file: File, refusal: Refusal) -> None:
         self._counts.failed += 1
         self._report.refused(file.name, refusal)
 
-    def _write(self, name: str, document: Document, progress: Progress) -> None:
+    def _write(self, name: str, text: str, progress: Progress) -> None:
         """What the command writes of a request."""
         if self._options.command == "check":
             if self._options.json:
@@ -181,11 +183,11 @@ class Run:
             return
         progress.clear()
         if self._options.command == "canonical":
-            self._report.canonical(name, canonical(document.text))
+            self._report.canonical(name, canonical(text))
         elif self._options.command == "nodes":
-            self._report.nodes(name, document)
+            self._report.nodes(name, parse(text, **self._limits))
         else:
-            self._report.tokens(name, tokens(document.text))
+            self._report.tokens(name, tokens(text))
 
 
 def main(arguments: Optional[Sequence[str]] = None) -> int:

@@ -163,6 +163,48 @@ static int find_attributes(node_class *c, PyObject *class, PyObject *names, Py_s
     return 0;
 }
 
+/* Where an object has a reference to another one: the offset, if it is there once; otherwise 0. */
+static size_t offset_of(PyObject *object, PyObject *wanted, size_t size) {
+    size_t found = 0, count = 0;
+    for (size_t at = sizeof(PyObject); at + sizeof wanted <= size; at += sizeof wanted) {
+        if (*(PyObject **)((char *)object + at) != wanted) continue;
+        found = at;
+        count++;
+    }
+    return count == 1 ? found : 0;
+}
+
+/* Finds the offsets of a class's slots, by an object of it in which each slot in turn refers to a mark. Other attributes have
+ * none. */
+static int find_offsets(const module_state *state, node_class *c, PyObject *slot_type) {
+    PyObject *size = PyObject_GetAttrString((PyObject *)c->type, "__basicsize__");
+    size_t bytes = size == NULL ? 0 : PyLong_AsSize_t(size);
+    Py_XDECREF(size);
+    PyObject *object = PyErr_Occurred() ? NULL : PyType_GenericNew(c->type, state->nothing, NULL);
+    bool is_right = object != NULL;
+    for (Py_ssize_t i = 0; is_right && i < c->count; i++) {
+        attribute *a = &c->attributes[i];
+        if ((PyObject *)Py_TYPE(a->descriptor) != slot_type) continue;
+        PyObject *mark = PyList_New(0);
+        is_right = mark != NULL && put(a, object, mark) == 0;
+        if (is_right) a->offset = offset_of(object, mark, bytes);
+        Py_XDECREF(mark);
+    }
+    Py_XDECREF(object);
+    return is_right ? 0 : -1;
+}
+
+/* The same of all classes. */
+static int find_all_offsets(module_state *state) {
+    PyObject *types = PyImport_ImportModule("types");
+    PyObject *slot_type = types == NULL ? NULL : PyObject_GetAttrString(types, "MemberDescriptorType");
+    int result = slot_type == NULL ? -1 : 0;
+    for (int i = 0; result == 0 && i < CLASSES; i++) result = find_offsets(state, &state->classes[i], slot_type);
+    Py_XDECREF(slot_type);
+    Py_XDECREF(types);
+    return result;
+}
+
 /* Keeps the classes of nodes and locations. */
 static int find_classes(module_state *state, PyObject *classes) {
     for (int i = 0; i < CLASSES; i++) {
@@ -215,7 +257,7 @@ static PyObject *setup(PyObject *module, PyObject *arguments) {
         Py_INCREF(operations[i]);
         state->operations[i] = operations[i];
     }
-    state->is_set = find_classes(state, classes) == 0 && find_tools(state) == 0;
+    state->is_set = find_classes(state, classes) == 0 && find_tools(state) == 0 && find_all_offsets(state) == 0;
     if (state->is_set) return none();
     clear(module);
     return NULL;

@@ -43,10 +43,12 @@ enum {
 
 enum { MOST_ATTRIBUTES = 12, OPERATIONS = 3 };
 
-/* An attribute, and how it is set. If that isn't known, it is set by its name. */
+/* An attribute, and how it is set: at its offset in the object, if it is a slot; otherwise by its descriptor, if that sets it, or
+ * by its name. */
 typedef struct {
     PyObject *name, *descriptor;
     descrsetfunc set;
+    size_t offset;
 } attribute;
 
 typedef struct {
@@ -103,13 +105,25 @@ typedef struct {
     uint32_t index, byte;
 } spot;
 
+static PyObject *none(void) {
+    Py_INCREF(Py_None);
+    return Py_None;
+}
+
 static int put(const attribute *a, PyObject *object, PyObject *value) {
     return a->set != NULL ? a->set(a->descriptor, object, value) : PyObject_GenericSetAttr(object, a->name, value);
 }
 
-static PyObject *none(void) {
-    Py_INCREF(Py_None);
-    return Py_None;
+/* Sets an attribute of a new object, in which it has no value yet, and takes the reference to the value. A slot is written to
+ * itself: a third of the time of a document was spent in setting them by their descriptors. */
+static int put_new(const attribute *a, PyObject *object, PyObject *value) {
+    if (a->offset != 0) {
+        *(PyObject **)((char *)object + a->offset) = value;
+        return 0;
+    }
+    int result = put(a, object, value);
+    Py_DECREF(value);
+    return result;
 }
 
 /* An object with these attributes, as many as are given for its class. Their references are taken, whether the object is made
@@ -120,11 +134,13 @@ static PyObject *object_of(const builder *b, int class, PyObject **values) {
     for (Py_ssize_t i = 0; i < c->given; i++) is_whole = is_whole && values[i] != NULL;
     PyObject *object = is_whole ? PyType_GenericNew(c->type, b->state->nothing, NULL) : NULL;
     for (Py_ssize_t i = 0; i < c->given; i++) {
-        if (object != NULL && put(&c->attributes[i], object, values[i]) != 0) Py_CLEAR(object);
-        Py_XDECREF(values[i]);
+        if (object == NULL)
+            Py_XDECREF(values[i]);
+        else if (put_new(&c->attributes[i], object, values[i]) != 0)
+            Py_CLEAR(object);
     }
     for (Py_ssize_t i = c->given; i < c->count; i++)
-        if (object != NULL && put(&c->attributes[i], object, Py_None) != 0) Py_CLEAR(object);
+        if (object != NULL && put_new(&c->attributes[i], object, none()) != 0) Py_CLEAR(object);
     return object;
 }
 

@@ -4,6 +4,7 @@
 
 #include "_limits.h"
 #include "_slots.h"
+#include "check.h"
 #include "whole.h"
 
 /* A call's status and its bytes objects: `first`, the texts, and the complexities if `count` is 3. */
@@ -42,18 +43,51 @@ PyDoc_STRVAR(parse_doc, "parse(source, limits, /)\n--\n\n"
                         "no complexities. For an error the bytes are those of a firthnapkin_error and of its message. Raises\n"
                         "ValueError if the limits have another size, and MemoryError if memory runs out.");
 
-static PyObject *parse(PyObject *module, PyObject *arguments) {
+/* Reads a source and limits. False, with an exception, where they aren't bytes, or the limits have another size. */
+static int read_source(PyObject *arguments, const char *format, char **bytes, Py_ssize_t *length, package_limits *limits) {
     PyObject *source, *given;
+    return PyArg_ParseTuple(arguments, format, &source, &given) && PyBytes_AsStringAndSize(source, bytes, length) == 0
+           && are_limits(given, limits);
+}
+
+static PyObject *parse(PyObject *module, PyObject *arguments) {
     package_limits limits;
     char *bytes;
     Py_ssize_t length;
     (void)module;
-    if (!PyArg_ParseTuple(arguments, "SS:parse", &source, &given)) return NULL;
-    if (PyBytes_AsStringAndSize(source, &bytes, &length) != 0 || !are_limits(given, &limits)) return NULL;
+    if (!read_source(arguments, "SS:parse", &bytes, &length, &limits)) return NULL;
     PyThreadState *state = PyEval_SaveThread();
     whole w = document_whole((const uint8_t *)bytes, (size_t)length, &limits.call, &limits.sizes);
     PyEval_RestoreThread(state);
     return result_of(&w, w.nodes, w.nodes_count * sizeof *w.nodes, 3);
+}
+
+PyDoc_STRVAR(check_doc, "check(source, limits, /)\n--\n\n"
+                        "Returns None if a source is a document, and otherwise the status, and the bytes of a firthnapkin_error\n"
+                        "and of its message.\n\n"
+                        "The limits are those of parse. No document is built. Raises ValueError if the limits have another size,\n"
+                        "and MemoryError if memory runs out.");
+
+/* What is found of a source, with the words of its error. */
+static whole checked(const uint8_t *source, size_t length, const package_limits *limits) {
+    finding found = check_source(source, length, &limits->call, &limits->sizes);
+    if (found.status == OPERATION_TOO_LARGE) return document_whole(source, length, &limits->call, &limits->sizes);
+    whole w = {.status = found.status, .error = found.error};
+    add_words(&w, source, length);
+    return w;
+}
+
+static PyObject *check(PyObject *module, PyObject *arguments) {
+    package_limits limits;
+    char *bytes;
+    Py_ssize_t length;
+    (void)module;
+    if (!read_source(arguments, "SS:check", &bytes, &length, &limits)) return NULL;
+    PyThreadState *state = PyEval_SaveThread();
+    whole w = checked((const uint8_t *)bytes, (size_t)length, &limits);
+    PyEval_RestoreThread(state);
+    if (w.status != FIRTHNAPKIN_OK) return result_of(&w, NULL, 0, 2);
+    Py_RETURN_NONE;
 }
 
 PyDoc_STRVAR(complexities_doc, "complexities(source, /)\n--\n\n"
@@ -147,8 +181,15 @@ static int is_usual(PyObject *value, PyObject *usual, const limit_row *row, uint
     return 1;
 }
 
+/* The value of a limit: in a dict it has its name, and in a tuple its index. NULL, without an exception, where there is none. */
+static PyObject *value_in(PyObject *given, PyObject *names, Py_ssize_t i) {
+    if (PyDict_Check(given)) return PyDict_GetItem(given, PyTuple_GetItem(names, i));
+    return i < PyTuple_Size(given) ? PyTuple_GetItem(given, i) : NULL;
+}
+
 PyDoc_STRVAR(packed_doc, "packed(given, usual, names, defaults, rows, /)\n--\n\n"
-                         "Returns the bytes of limits that are given by name, over those of the usual ones.\n\n"
+                         "Returns the bytes of limits that are given by name, or in the order of the names, over those of the\n"
+                         "usual ones.\n\n"
                          "Each limit has a name, a default, and a row: the bytes of the index of its word, and of the largest\n"
                          "number. Returns None where one is neither its default nor an int up to that number. Raises ValueError\n"
                          "if the usual limits have another size.");
@@ -158,10 +199,10 @@ static PyObject *packed(PyObject *module, PyObject *arguments) {
     package_limits limits;
     limit_row row;
     (void)module;
-    if (!PyArg_ParseTuple(arguments, "O!SO!O!S:packed", &PyDict_Type, &given, &usual, &PyTuple_Type, &names, &PyTuple_Type,
-                          &defaults, &table)
+    if (!PyArg_ParseTuple(arguments, "OSO!O!S:packed", &given, &usual, &PyTuple_Type, &names, &PyTuple_Type, &defaults, &table)
         || !are_limits(usual, &limits))
         return NULL;
+    if (!PyDict_Check(given) && !PyTuple_Check(given)) return PyErr_Format(PyExc_TypeError, "limits must be a dict or a tuple");
     Py_ssize_t count = PyTuple_Size(names);
     if (PyTuple_Size(defaults) != count || PyBytes_Size(table) != count * (Py_ssize_t)sizeof row)
         return PyErr_Format(PyExc_ValueError, "each limit must have a name, a default and a row");
@@ -170,13 +211,14 @@ static PyObject *packed(PyObject *module, PyObject *arguments) {
     memcpy(words, &limits, sizeof words);
     for (Py_ssize_t i = 0; i < count; i++) {
         memcpy(&row, rows + i * (Py_ssize_t)sizeof row, sizeof row);
-        PyObject *value = PyDict_GetItem(given, PyTuple_GetItem(names, i));
+        PyObject *value = value_in(given, names, i);
         if (!is_usual(value, PyTuple_GetItem(defaults, i), &row, words)) Py_RETURN_NONE;
     }
     return PyBytes_FromStringAndSize((const char *)words, sizeof words);
 }
 
 static PyMethodDef methods[] = {{"parse", parse, METH_VARARGS, parse_doc},
+                                {"check", check, METH_VARARGS, check_doc},
                                 {"complexities", complexities, METH_O, complexities_doc},
                                 {"tokens", tokens, METH_VARARGS, tokens_doc},
                                 {"canonical", canonical, METH_O, canonical_doc},

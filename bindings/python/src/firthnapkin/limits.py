@@ -6,7 +6,7 @@ import copy
 import inspect
 import operator
 import struct
-from typing import Any, Callable, Dict, List, Optional, Tuple, get_args, get_type_hints
+from typing import Any, Callable, Dict, List, Optional, Tuple, Union, get_args, get_type_hints
 
 from . import _parser
 
@@ -89,11 +89,16 @@ class Limits:
         shared._prepare()
         return shared
 
-    def packed(self, given: Dict[str, Any]) -> bytes:
-        """Returns limits as the library takes them. Raises TypeError or ValueError where one is not accepted."""
+    def packed(self, given: Union[Dict[str, Any], Tuple[Any, ...]]) -> bytes:
+        """Returns limits as the library takes them. They are given by name, or all of them in the order of their words.
+
+        Raises TypeError or ValueError where one is not accepted.
+        """
         # Each step of Python costs as much as a good part of a short text, so the extension reads the usual ones.
         found = _parser.packed(given, self._usual, *self._rows)
-        return self._read(given) if found is None else found
+        if found is not None:
+            return found
+        return self._read(given if isinstance(given, dict) else dict(zip(self._places, given)))
 
     def _read(self, given: Dict[str, Any]) -> bytes:
         """The same for any limits."""
