@@ -21,13 +21,13 @@ const small = `query Film($id: ID!) {
 }
 `
 
-// Requests from 98 bytes to 1 MB, parsed by either package.
+// Requests from 3 bytes to 1 MB, parsed by either package.
 func BenchmarkBoth(b *testing.B) {
 	request, err := os.ReadFile("../../request.graphql")
 	if err != nil {
 		b.Fatal(err)
 	}
-	sources := []string{small}
+	sources := []string{"{a}", small}
 	for _, count := range []int{1, 3, 17, 170, 1700} {
 		sources = append(sources, strings.Repeat(string(request), count))
 	}
