@@ -218,7 +218,8 @@ SPREAD = ("spaces", "fields")
 
 # Of calls on texts of 1.2 MB: the least and the most bytes that they may hold for each byte of the text. A call that builds the
 # whole tree holds more than is allowed to one that passes on each definition. The library for C holds four bytes for each byte of
-# a text past ASCII, and else nothing but what the program that calls it writes its lines with.
+# a text past ASCII, a canonical text, an error's words and what it notes of each operation, and else nothing but what the program
+# that calls it writes its lines with.
 HELD = [
     (["run_calls", "calls", "parse", "into"], "definitions", 1, 60),
     (["run_calls", "calls", "parse", "200"], "definitions", 60, 80),
@@ -233,4 +234,12 @@ HELD = [
     (["c", "parse"], "tokens past text past ASCII", 4, 4.01),
     (["c", "parse"], "a fault at the end", 0, 0.01),
     (["c", "parse"], "brackets without an end", 0, 0.01),
+    (["c", "complexities"], "definitions", 4, 10.51),
+    (["c", "complexities"], "fields", 0, 0.01),
+    (["c", "tokens"], "definitions", 0, 0.01),
+    (["c", "tokens"], "text past ASCII", 4, 4.01),
+    (["c", "count"], "definitions", 0, 0.01),
+    (["c", "count"], "text past ASCII", 0, 0.01),
+    (["c", "canonical"], "definitions", 1, 1.01),
+    (["c", "message"], "definitions", 3, 3.01),
 ]
