@@ -20,6 +20,12 @@ def unfenced_code(text):
     return [line.strip() for line in outside_fences(text).split("\n") if line.startswith("    ") and signs.search(line)]
 
 
+def clauses(text):
+    """The pieces of code in a line of text that have a sign of a clause and are no mere form, as `P ↔ Q`."""
+    pieces = re.findall(r"`([^`\n]{20,})`", outside_fences(text))
+    return [it for it in pieces if re.search("[≡→↔×⊎¬λ∷]", it)]
+
+
 def links(text):
     """The files of the repository that a document links to, each with the heading or an empty text."""
     for target in LINK.findall(outside_fences(text)):
