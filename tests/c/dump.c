@@ -3,15 +3,16 @@
  *     dump [--utf-16] CORPUS
  *
  * tests/corpus.py makes a corpus, and has its form. tests/check_dumps compares these lines with those of the packages, byte for
- * byte; docs say what a package exposes. A line has these keys, and each object those that are shown here, in this order:
+ * byte. A line has these keys, and an error these, in this order:
  *
- *     tokens      [kind, start, end, text, text without quotes] of each token, or an error
+ *     tokens      [kind, start, end, line, column, text, text without quotes] of each token, or an error
  *     canonical   the canonical text, or an error
  *     error       null, or an error: kind, detail, character, message, start, end, line, column, excerpt
  *     within      the same of a parse within a depth of 3 and 20 tokens
  *     document    null if there is an error, otherwise nodes, definitions, operations, fragments
  *
- * Of a source of more than LONG bytes the excerpts of parts are null, and the LAST tokens and nodes are written. A position is [index, line, column, byte]. With --utf-16 index and column count UTF-16 units, as Node's package does. */
+ * A position is [index, line, column, byte]. With --utf-16 index and column count UTF-16 units, as Node's package does. Of a source
+ * of more than LONG bytes the excerpts of parts are null, and only the LAST tokens and nodes are written. */
 #define _GNU_SOURCE
 #include "dumped.h"
 

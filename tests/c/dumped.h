@@ -127,7 +127,7 @@ static void tokens(const uint8_t *source, size_t length) {
             position(found[i].start);
             putchar(',');
             position(found[i].end);
-            putchar(',');
+            printf(",%u,%u,", found[i].start.line + 1, column_of(found[i].start) + 1);
             between(source, found[i].start.byte, found[i].end.byte);
             putchar(',');
             between(source, found[i].start.byte + found[i].quotes, found[i].end.byte - found[i].quotes);

@@ -56,7 +56,7 @@ const lastOf = (items) => (isLong ? [...items].slice(-LAST) : [...items]);
 
 const tokensOf = (text) =>
   lastOf(firthnapkin.tokens(text)).map((it) => [
-    snake(it.kind), position(it.start), position(it.end), it.text, it.unquoted,
+    snake(it.kind), position(it.start), position(it.end), it.line, it.column, it.text, it.unquoted,
   ]);
 
 const WITH_VALUE = ["int", "boolean", "fragmentDefinition", "type", "string", "blockString"];

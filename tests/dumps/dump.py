@@ -53,7 +53,7 @@ def last_of(items: Any) -> Any:
 
 def tokens_of(text: str) -> List[Any]:
     tokens = last_of(package.tokens(text))
-    return [[it.kind.name.lower(), it.start, it.end, it.text, it.unquoted] for it in tokens]
+    return [[it.kind.name.lower(), it.start, it.end, it.line, it.column, it.text, it.unquoted] for it in tokens]
 
 
 WITH_VALUE = ("INT", "BOOLEAN", "FRAGMENT_DEFINITION", "TYPE", "STRING", "BLOCK_STRING")

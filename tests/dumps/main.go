@@ -105,7 +105,9 @@ func tokensOf(text string) any {
 		return errorOf(err)
 	}
 	return each(lastOf(tokens, text), func(t firthnapkin.Token) any {
-		return []any{t.Kind.String(), position(t.Start), position(t.End), t.Text(text), t.Unquoted(text)}
+		// It has no line and column of its own.
+		line, column := t.Start.Line+1, t.Start.Column+1
+		return []any{t.Kind.String(), position(t.Start), position(t.End), line, column, t.Text(text), t.Unquoted(text)}
 	})
 }
 

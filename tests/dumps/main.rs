@@ -87,7 +87,9 @@ fn tokens_of(source: &str) -> String {
     match firthnapkin::tokens(source) {
         Err(error) => error_of(error, source),
         Ok(tokens) => array(last_of(tokens.iter()).map(|t| {
-            array([named(t.kind()), position(t.start()), position(t.end()), quoted(t.text()), quoted(t.unquoted())])
+            let [line, column] = [t.line(), t.column()].map(|number| number.to_string());
+            let [text, unquoted] = [t.text(), t.unquoted()].map(quoted);
+            array([named(t.kind()), position(t.start()), position(t.end()), line, column, text, unquoted])
         })),
     }
 }
