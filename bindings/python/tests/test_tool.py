@@ -116,7 +116,11 @@ class Checks(Tool):
                 self.assertIn(named, found.stderr.decode().splitlines()[-1])
 
     def test_order_of_arguments(self) -> None:
-        for words in (("--depth", "1", "check", "bad.graphql"), ("check", "--depth", "1", "bad.graphql"), ("check", "--", "bad.graphql")):
+        for words in (
+            ("--depth", "1", "check", "bad.graphql"),
+            ("check", "--depth", "1", "bad.graphql"),
+            ("check", "--", "bad.graphql"),
+        ):
             self.assertEqual(self.tool(*words), (1, REFUSED))
         found = self.run_tool("check", "good.graphql", "--depth", "1", "bad.graphql")
         self.assertEqual((found.returncode, found.stdout.decode()), (1, REFUSED))
@@ -128,7 +132,17 @@ class Checks(Tool):
         for words in (("--help",), ("-h",), ("check", "missing", "--help")):
             status, written = self.tool(*words)
             self.assertEqual((status, written.split(" [")[0]), (0, "usage: python -m firthnapkin"))
-            for word in ("check", "canonical", "nodes", "tokens", "--depth", "--max-root-fields", "--json", "--strict", "--version"):
+            for word in (
+                "check",
+                "canonical",
+                "nodes",
+                "tokens",
+                "--depth",
+                "--max-root-fields",
+                "--json",
+                "--strict",
+                "--version",
+            ):
                 self.assertIn(f"\n  {word} ", written)
 
 
@@ -191,7 +205,15 @@ class Files(Tool):
 
     def test_folders(self) -> None:
         """The files with this ending below a folder, in the order of names, and the same name twice is read twice."""
-        for name in ("f/b.graphql", "f/a.graphql", "f/c.gql", "f/d.graphql.txt", "f/.graphql", "f/x.graphql/c.graphql", "f/a/z.graphql"):
+        for name in (
+            "f/b.graphql",
+            "f/a.graphql",
+            "f/c.gql",
+            "f/d.graphql.txt",
+            "f/.graphql",
+            "f/x.graphql/c.graphql",
+            "f/a/z.graphql",
+        ):
             self.write(name, BAD)
         wanted = ["f/.graphql", "f/a.graphql", "f/b.graphql", "f/a/z.graphql", "f/x.graphql/c.graphql"]
         status, found = self.objects("check", "f")
@@ -247,7 +269,9 @@ class Files(Tool):
         found = self.run_tool("check", "-", "-", given=BAD)
         self.assertEqual((found.returncode, found.stdout.decode()), (2, REFUSED.replace("bad.graphql", "<stdin>")))
         self.assertIn(b"<stdin>: it is named twice\n", found.stderr)
-        found = subprocess.run(["bash", "-c", f"exec {sys.executable} -m firthnapkin check - <&-"], capture_output=True, check=False)
+        found = subprocess.run(
+            ["bash", "-c", f"exec {sys.executable} -m firthnapkin check - <&-"], capture_output=True, check=False
+        )
         self.assertEqual((found.returncode, found.stderr), (2, b"<stdin>: standard input is closed\n"))
         with open(self.folder + "/good.graphql", "rb") as file:
             self.assertEqual(self.run_tool("check", "/dev/stdin", given=file.read()).returncode, 0)
@@ -255,7 +279,16 @@ class Files(Tool):
     def test_names(self) -> None:
         """Any name is shown in one line, and a character that the output's encoding lacks ends nothing."""
         self.write("a\nb\x1b[31m.graphql", BAD)
-        self.assertEqual(self.tool("check", "a\nb\x1b[31m.graphql")[1].split("\n")[0], 'a\ufffdb\ufffd[31m.graphql:2:5: Unexpected ")"')
+        self.assertEqual(
+            self.tool("check", "a\nb\x1b[31m.graphql")[1].split("\n")[0], 'a\ufffdb\ufffd[31m.graphql:2:5: Unexpected ")"'
+        )
+        self.write("a\nb\x1b[31m.graphqls", SCHEMA)
+        for name, words in (
+            ("c\nd\x1b[31m", "No such file or directory"),
+            ("a\nb\x1b[31m.graphqls", "skipped, since it is a schema"),
+        ):
+            shown = name.translate({10: "\ufffd", 27: "\ufffd"})
+            self.assertEqual(self.run_tool("check", name).stderr.decode().split("\n")[0], f"{shown}: {words}")
         with open(os.path.join(os.fsencode(self.folder), b"\xff.graphql"), "wb") as file:
             file.write("{ é }".encode())
         found = self.run_tool("check", b"\xff.graphql", encoding="ascii")
@@ -306,7 +339,9 @@ class Outputs(Tool):
         ]))  # fmt: skip
         self.assertEqual(self.objects("check", "good.graphql", "schema.graphql")[0], 0)
         self.assertEqual(self.objects("check", "schema.graphql", "--strict")[0], 1)
-        self.assertEqual(self.objects("canonical", "good.graphql"), (0, [{"file": "good.graphql", "status": "passed", "canonical": "{a}"}]))
+        self.assertEqual(
+            self.objects("canonical", "good.graphql"), (0, [{"file": "good.graphql", "status": "passed", "canonical": "{a}"}])
+        )
 
     def test_json_of_parts(self) -> None:
         text = '{ a(b: 1e999, c: 99999999999, d: "é\ud83d") }'.encode("utf-8", "replace")
@@ -354,6 +389,31 @@ class Outputs(Tool):
         self.assertLess(len(written), 200_000)
 
 
+class Exits(Tool):
+    def forced(self, name: str, error: str, command: str) -> Tuple[int, str, str]:
+        """The exit status and both outputs of a run in which a function of the tool raises an error."""
+        code = (
+            "import sys, firthnapkin.__main__ as tool\n"
+            f"def fails(*_, **__): raise {error}\n"
+            f"tool.{name} = fails\n"
+            f"sys.exit(tool.main(['{command}', 'good.graphql']))\n"
+        )
+        found = subprocess.run([sys.executable, "-c", code], cwd=self.folder, capture_output=True, timeout=60, check=False)
+        return found.returncode, found.stdout.decode(), found.stderr.decode()
+
+    def test_each(self) -> None:
+        """Ctrl-C, memory that runs out, and an output that fails, wherever they happen."""
+        for name, command in (("read", "check"), ("check", "check"), ("canonical", "canonical"), ("files_of", "check")):
+            self.assertEqual(self.forced(name, "KeyboardInterrupt", command), (130, "", ""))
+        for name, command in (("read", "check"), ("check", "nodes")):
+            self.assertEqual(self.forced(name, "MemoryError", command), (2, "", "good.graphql: memory ran out\n"))
+        for name, command in (("canonical", "canonical"), ("parse", "nodes"), ("tokens", "tokens"), ("files_of", "check")):
+            self.assertEqual(self.forced(name, "MemoryError", command), (2, "", "python -m firthnapkin: memory ran out\n"))
+        full = "python -m firthnapkin: the output can't be written: No space left on device\n"
+        self.assertEqual(self.forced("canonical", "OSError(28, 'No space left on device')", "canonical"), (2, "", full))
+        self.assertEqual(self.forced("canonical", "BrokenPipeError", "canonical"), (2, "", ""))
+
+
 class Progress(Tool):
     def on_terminal(self, *words: str) -> Tuple[int, str, str]:
         """The exit status, what is on a terminal that is standard error, and what is on standard output."""
@@ -377,7 +437,9 @@ class Progress(Tool):
         self.assertEqual((status, written), (0, ""))
         self.assertTrue(shown.startswith("\r0 of 60 files"), shown)
         self.assertTrue(shown.endswith("\r\x1b[K60 files: 60 passed, 0 failed, 0 skipped as schemas, 0 not read\r\n"), shown)
-        self.assertEqual(self.run_tool("check", "many").stderr, b"60 files: 60 passed, 0 failed, 0 skipped as schemas, 0 not read\n")
+        self.assertEqual(
+            self.run_tool("check", "many").stderr, b"60 files: 60 passed, 0 failed, 0 skipped as schemas, 0 not read\n"
+        )
         self.write("many/00.graphql", SCHEMA)
         status, shown, written = self.on_terminal("check", "many")
         self.assertIn("\r0 of 60 files\r\x1b[Kmany/00.graphql: skipped", shown)
