@@ -217,7 +217,7 @@ def large() -> Iterator[str]:
     yield '{a(b:"' + "x" * MANY + '")}' + SMALL
     yield "{" + "a" * MANY + "}" + SMALL
     yield "{a(" + "b:1 " * MANY + ")}" + SMALL
-    yield "query A{a}" * MANY + SMALL
+    yield "".join("query A{" + "a " * (number % 3 + 1) + "}" for number in range(MANY)) + SMALL
     yield "{a(b:[" + "1 " * MANY + '])}\n"' + "é" * MANY + '"'
 
 
