@@ -35,3 +35,8 @@ func Check(source string, limits Limits) error {
 		return errorOf(found.status, source, &failure)
 	}
 }
+
+// CheckNamed is Check of a source with a name, as that of its file. A *SyntaxError has it as SourceName.
+func CheckNamed(name, source string, limits Limits) error {
+	return named(name, Check(source, limits))
+}

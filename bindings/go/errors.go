@@ -61,7 +61,7 @@ type SyntaxError struct {
 	Character rune // the character of the Detail, otherwise 0
 	// The positions of a token, a spread or an operation, or of zero width. Their lines and columns are counted from 0.
 	Start, End Position
-	// The name of the source, or "" if it has none. A program may set it, as of an error of Check, Tokens or Canonical, which know no name.
+	// The name of the source, or "" if it has none. A program may set it, as of an error of Tokens or Canonical, which know no name.
 	SourceName string
 
 	source string
@@ -77,7 +77,7 @@ func (e *SyntaxError) Error() string {
 	return fmt.Sprintf("%s. At %s%d:%d", e.Message, name, e.Line(), e.Column())
 }
 
-// named gives a *SyntaxError the name of its source, and returns each error.
+// named gives a *SyntaxError the name of its source, and returns each error, and nil.
 func named(name string, err error) error {
 	if syntax, ok := err.(*SyntaxError); ok {
 		syntax.SourceName = name

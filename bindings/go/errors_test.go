@@ -32,14 +32,20 @@ func TestNamedErrors(t *testing.T) {
 	} {
 		for _, name := range []string{"pets.graphql", "a b:c\n\x00%s\xff", "é𝄞"} {
 			document, err := ParseNamed(name, source, words.limits)
-			found := asSyntaxError(t, err)
-			same(t, source, []any{document == nil, found.SourceName, found.Error()}, []any{true, name, words.before + name + ":" + words.behind})
-			same(t, "the message has no name", found.Message+". At ", words.before)
+			same(t, source, document == nil, true)
+			for _, err := range []error{err, CheckNamed(name, source, words.limits)} {
+				found := asSyntaxError(t, err)
+				same(t, source, []any{found.SourceName, found.Error()}, []any{name, words.before + name + ":" + words.behind})
+				same(t, "the message has no name", found.Message+". At ", words.before)
+			}
 		}
 		_, err := ParseNamed("", source, words.limits)
 		same(t, source, []any{asSyntaxError(t, err).SourceName, err.Error()}, []any{"", words.before + words.behind})
 		_, err = ParseWithin(source, words.limits)
 		same(t, source, []any{asSyntaxError(t, err).SourceName, err.Error()}, []any{"", words.before + words.behind})
+		for _, err := range []error{CheckNamed("", source, words.limits), Check(source, words.limits)} {
+			same(t, source, []any{asSyntaxError(t, err).SourceName, err.Error()}, []any{"", words.before + words.behind})
+		}
 	}
 }
 
@@ -59,13 +65,16 @@ func TestNamedDocuments(t *testing.T) {
 	same(t, "its error of complexities", err.Error(), `Unknown fragment. At 1:3`)
 }
 
-// Other errors have no name, and are those of ParseWithin.
+// Other errors have no name, and are those of ParseWithin. A check of a document has none.
 func TestOtherNamedErrors(t *testing.T) {
 	_, err := ParseNamed("pets.graphql", "\xff", DefaultLimits)
-	same(t, "not UTF-8", err, ErrNotUTF8)
+	same(t, "not UTF-8", []error{err, CheckNamed("pets.graphql", "\xff", DefaultLimits)}, []error{ErrNotUTF8, ErrNotUTF8})
 	_, err = ParseNamed("pets.graphql", "{a}", within(-1, AnyTokens))
-	same(t, "an invalid limit", []any{errors.Is(err, ErrInvalidLimit), err.Error()},
-		[]any{true, "firthnapkin: invalid limit: Depth -1 is not from 0 to 1000"})
+	for _, err := range []error{err, CheckNamed("pets.graphql", "{a}", within(-1, AnyTokens))} {
+		same(t, "an invalid limit", []any{errors.Is(err, ErrInvalidLimit), err.Error()},
+			[]any{true, "firthnapkin: invalid limit: Depth -1 is not from 0 to 1000"})
+	}
+	same(t, "a document", CheckNamed("pets.graphql", "{ a }", within(1, 3)), nil)
 	_, err = Tokens("{ ?")
 	found := asSyntaxError(t, err)
 	found.SourceName = "pets.graphql"
