@@ -208,6 +208,13 @@ const SERVER = `
 
 test("graphql-js executes requests with the wrapper that the README shows", { skip }, () => {
   const [results, executed, ...lengths] = written(SERVER);
+  const excerpts = [];
+  for (const { errors } of results) {
+    const extensions = errors?.[0].extensions;
+    if (extensions === undefined) continue;
+    excerpts.push(extensions.excerpt);
+    delete extensions.excerpt;
+  }
   const extensions = { code: "GRAPHQL_PARSE_FAILED" };
   const wanted = [
     { data: { pet: { name: "Rex", friend: { name: "Tom" } } } },
@@ -224,5 +231,56 @@ test("graphql-js executes requests with the wrapper that the README shows", { sk
   ];
   assert.deepStrictEqual(results.map(({ data, errors }) => (errors ? { errors } : { data })), wanted);
   assert.strictEqual(results[7].shown[0], 'Unexpected ")"\n\npets.graphql:1:7\n1 | { pet ) }\n  |       ^');
+  const [unknown, token, deep, large, cycle, named, argument] = excerpts;
+  assert.strictEqual(unknown, "1 | {\n2 |   pet { name \u00e9 }\n  |              ^\n3 | }");
+  assert.deepStrictEqual([token, named], Array(2).fill("1 | { pet ) }\n  |       ^"));
+  assert.strictEqual(cycle, `1 | { pet { ...F } } fragment F on Pet { ...F }\n  | ${" ".repeat(37)}^`);
+  assert.strictEqual(argument, `1 | { pet(a: "\u00e9") ) }\n  | ${" ".repeat(14)}^`);
+  // Of long lines a part is shown.
+  for (const excerpt of [deep, large]) assert.match(excerpt, /^1 \| .+\n  \| *\^$/);
   assert.deepStrictEqual([executed, lengths], [{ data: { pet: { name: "Rex" } } }, [1, 1]]);
+});
+
+// A server whose middleware is the README's. What that passes on gets a response of its own.
+const MIDDLEWARE = `
+  const http = require("http");
+  const { checkBody } = require("./limits");
+  const server = http.createServer(async (request, response) => {
+    let body = "";
+    for await (const part of request) body += part;
+    if (body !== "") request.body = JSON.parse(body);
+    request.query = Object.fromEntries(new URL(request.url, "http://localhost").searchParams);
+    checkBody(request, response, (error) => response.end(JSON.stringify({ passed: error === undefined })));
+  });
+  const send = async (address, body) => {
+    const { port } = server.address();
+    const words = body === undefined ? {} : { method: "POST", body: JSON.stringify(body) };
+    const response = await fetch("http://127.0.0.1:" + port + "/graphql" + address, words);
+    return [response.status, response.headers.get("content-type"), await response.json()];
+  };
+  server.listen(0, "127.0.0.1", async () => {
+    const found = [];
+    for (const [address, body] of [
+      ["", { query: "{ pet { name } }" }], ["?query={pet}"], [""], ["", { id: 5 }], ["", [{ query: "{ pet }" }, null, { query: "{ name }" }]],
+      ["", { query: "{ pet ) }" }], ["?query={pet)}"], ["", [{ query: "{ pet }" }, { query: "{ pet ) }" }]], ["?query={pet}", { query: "{ pet ) }" }],
+    ])
+      found.push(await send(address, body));
+    server.close();
+    // No response is written for another error.
+    const own = new RangeError("own");
+    checkBody({ get body() { throw own; } }, null, (error) => found.push(error === own));
+    console.log(JSON.stringify(found));
+  });
+`;
+
+test("a server responds to requests with an error by the middleware that the README shows", { skip }, () => {
+  const found = written(MIDDLEWARE);
+  const readme = fs.readFileSync(path.join(__dirname, "..", "README.md"), "utf8");
+  const [shown] = /^ {4}\{\n {6}"errors"(?:.|\n {4})*/m.exec(readme);
+  const refused = [400, "application/json", JSON.parse(shown)];
+  const short = structuredClone(refused);
+  Object.assign(short[2].errors[0], { locations: [{ line: 1, column: 5 }] });
+  short[2].errors[0].extensions.excerpt = "1 | {pet)}\n  |     ^";
+  const passed = Array(5).fill([200, null, { passed: true }]);
+  assert.deepStrictEqual(found, [...passed, refused, short, refused, refused, true]);
 });
