@@ -3,6 +3,7 @@
 #define FIRTHNAPKIN_WHOLE_H
 
 #include "calls.h"
+#include "check.h"
 #include "sizes.h"
 #include <stdlib.h>
 
@@ -128,7 +129,7 @@ static inline int make_all_buffers(whole *w, size_t nodes, size_t texts, size_t 
 static inline whole measure_whole(const uint8_t *source, size_t length, const firthnapkin_limits *limits,
                                   const size_limits *sizes) {
     whole w = {.status = FIRTHNAPKIN_OUT_OF_MEMORY};
-    size_t nodes = at_first(length) + 16, texts = at_first(length) + 64, operations = at_first(length) / 8 + 4;
+    size_t nodes = at_first(length) + 16, texts = at_first(length) + 64, operations = operations_at_first(length);
     do {
         if (!make_all_buffers(&w, nodes, texts, operations)) {
             w.status = FIRTHNAPKIN_OUT_OF_MEMORY;
@@ -153,12 +154,36 @@ static inline whole document_whole(const uint8_t *source, size_t length, const f
     return has_limit(sizes) ? measure_whole(source, length, limits, sizes) : parse_whole(source, length, limits);
 }
 
+/* Makes the status, the error and its words those of an operation that a check found. Nodes are made up to that operation's. */
+static inline void refuse_operation(whole *w, const uint8_t *source, size_t length, const firthnapkin_limits *limits,
+                                    const size_limits *sizes, const firthnapkin_complexity *beyond) {
+    size_t nodes = (size_t)beyond->definition + 1, texts;
+    w->status = FIRTHNAPKIN_OUT_OF_MEMORY;
+    if (!make_all_buffers(w, nodes, 0, 1)) return;
+    if (parse_on_stack(source, length, limits, w->nodes, nodes, &w->nodes_count, NULL, 0, &texts, &w->error)
+        == FIRTHNAPKIN_OUT_OF_MEMORY)
+        return;
+    *w->complexities = *beyond;
+    w->complexities_count = 1;
+    refuse_large(w, source, sizes);
+}
+
+/* What check_source finds, with the words of its error as texts. The result has to be freed, whatever the status. */
+static inline whole check_whole(const uint8_t *source, size_t length, const firthnapkin_limits *limits,
+                                const size_limits *sizes) {
+    finding found = check_source(source, length, limits, sizes);
+    whole w = {.status = found.status, .error = found.error};
+    if (w.status == OPERATION_TOO_LARGE) refuse_operation(&w, source, length, limits, sizes, &found.beyond);
+    add_words(&w, source, length);
+    return w;
+}
+
 /* How large the operations of a document are, whatever its depth: no nodes, and no texts but those of an error. The result has
  * to be freed, whatever the status. */
 static inline whole complexities_whole(const uint8_t *source, size_t length) {
     static const firthnapkin_limits loosest = {.depth = FIRTHNAPKIN_MAX_DEPTH, .tokens = UINT32_MAX};
     whole w = {.status = FIRTHNAPKIN_OUT_OF_MEMORY};
-    size_t capacity, needed = at_first(length) / 8 + 4;
+    size_t capacity, needed = operations_at_first(length);
     do {
         capacity = needed;
         if (!make_all_buffers(&w, 0, 0, capacity)) {

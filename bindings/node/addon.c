@@ -112,57 +112,6 @@ static int are_limits(napi_env env, napi_value value, package_limits *limits) {
     return 1;
 }
 
-/* Parses a source without any node, and with room for so many operations. A document then has a buffer that is too small: the
- * status is FIRTHNAPKIN_OK in its place, also if there are more operations. */
-static uint32_t parse_without_nodes(const uint8_t *source, size_t length, const package_limits *limits,
-                                    firthnapkin_complexity *complexities, size_t capacity, size_t *operations,
-                                    firthnapkin_error *error) {
-    size_t nodes, texts;
-    uint32_t status = has_limit(&limits->sizes)
-        ? parse_complexities_on_stack(source, length, &limits->call, NULL, 0, &nodes, NULL, 0, &texts, complexities, capacity,
-                                      operations, error)
-        : parse_on_stack(source, length, &limits->call, NULL, 0, &nodes, NULL, 0, &texts, error);
-    return status == FIRTHNAPKIN_BUFFER_TOO_SMALL ? FIRTHNAPKIN_OK : status;
-}
-
-/* Makes the status and the error those of the first operation that exceeds a limit, if one does. The nodes up to that operation's
- * are found for it. */
-static void refuse_large_without_nodes(whole *w, const uint8_t *source, size_t length, const package_limits *limits) {
-    excess found = first_beyond(w->complexities, w->complexities_count, &limits->sizes);
-    if (found.operation == w->complexities_count) return;
-    size_t nodes = w->complexities[found.operation].definition + 1, texts;
-    free(w->nodes);
-    w->nodes = malloc(nodes * sizeof *w->nodes);
-    if (w->nodes == NULL) {
-        w->status = FIRTHNAPKIN_OUT_OF_MEMORY;
-        return;
-    }
-    uint32_t status = parse_on_stack(source, length, &limits->call, w->nodes, nodes, &w->nodes_count, NULL, 0, &texts, &w->error);
-    if (status == FIRTHNAPKIN_OUT_OF_MEMORY)
-        w->status = status;
-    else
-        refuse_large(w, source, &limits->sizes);
-}
-
-/* Whether a source is a document within limits: the status, and the words of its error. The result has to be freed. */
-static whole check_whole(const uint8_t *source, size_t length, const package_limits *limits) {
-    whole w = {.status = FIRTHNAPKIN_OUT_OF_MEMORY};
-    size_t capacity, needed = at_first(length) / 8 + 4;
-    do {
-        capacity = needed;
-        if (!make_all_buffers(&w, 0, 0, capacity)) {
-            w.status = FIRTHNAPKIN_OUT_OF_MEMORY;
-            return w;
-        }
-        w.status = parse_without_nodes(source, length, limits, w.complexities, capacity, &w.complexities_count, &w.error);
-        needed = w.complexities_count;
-    } while (needed > capacity);
-    if (w.status == FIRTHNAPKIN_OK) refuse_large_without_nodes(&w, source, length, limits);
-    w.nodes_count = w.complexities_count = 0;
-    add_words(&w, source, length);
-    return w;
-}
-
 /* Reads a number as the library takes it; the largest for one that is out of its range. NaN is neither less than 0 nor more. */
 static int is_number(napi_env env, napi_value value, uint32_t *number) {
     double given;
@@ -185,7 +134,7 @@ static napi_value check(napi_env env, napi_callback_info info) {
     package_limits limits;
     if (!are_read(env, info, 3, &a) || !are_limits(env, a.other, &limits))
         return failed(env, "check takes a buffer, limits and a function");
-    whole w = check_whole(a.source, a.length, &limits);
+    whole w = check_whole(a.source, a.length, &limits.call, &limits.sizes);
     return result_of(env, &w, NULL, 0, a.allocate);
 }
 
@@ -304,14 +253,11 @@ static napi_value parse_packed(napi_env env, napi_callback_info info) {
 
 static napi_value is_document(napi_env env, napi_callback_info info) {
     package_limits limits;
-    size_t length, operations = 0;
-    firthnapkin_error error;
+    size_t length;
     napi_value result;
     kept *k = kept_with(env, info, &length, &limits);
     if (k == NULL) return failed(env, "isDocument takes a string and limits");
-    bool found = is_whole(length)
-        && parse_without_nodes(k->source, length, &limits, k->complexities, KEPT_OPERATIONS, &operations, &error) == FIRTHNAPKIN_OK
-        && operations <= KEPT_OPERATIONS && first_beyond(k->complexities, operations, &limits.sizes).operation == operations;
+    bool found = is_whole(length) && check_source(k->source, length, &limits.call, &limits.sizes).status == FIRTHNAPKIN_OK;
     return napi_get_boolean(env, found, &result) == napi_ok ? result : failed(env, "the result was not made");
 }
 

@@ -410,6 +410,37 @@ static void words_rows(const char *where) {
     has_words(where, excerpt_whole(source, 7, 8), FIRTHNAPKIN_INVALID_ERROR, 8, "");
 }
 
+/* What a check finds, and its words: those of an operation past a limit are of the first one that is. */
+static void check_rows(const char *where, threads wanted, const sigset_t *mask) {
+    static const char source[] = "{a} query Q {b c} query R {d e f}";
+    const firthnapkin_limits limits = FIRTHNAPKIN_LIMITS_DEFAULT, few = {.depth = 200, .tokens = 2};
+    const size_limits none = {{UINT32_MAX, UINT32_MAX, UINT32_MAX, UINT32_MAX, UINT32_MAX}};
+    size_limits sizes = none;
+    for (uint32_t most = 1; most <= 4; most++) {
+        sizes.most[0] = most < 4 ? most : UINT32_MAX;
+        begin();
+        whole w = check_whole((const uint8_t *)source, strlen(source), &limits, &sizes);
+        int is_large = most < 3;
+        check(w.status == (is_large ? OPERATION_TOO_LARGE : FIRTHNAPKIN_OK) && seen.measures == (most < 4)
+                  && seen.parses == (is_large || most == 4) && seen.messages == 0 && (is_large || w.texts_count == 0),
+              "%s: a check within %u fields: %u", where, most, w.status);
+        check_seen(where, source, wanted, mask);
+        if (is_large)
+            has_words(where, w, OPERATION_TOO_LARGE, most == 1 ? 4 : 18,
+                      most == 1 ? "Too many fields in operation \"Q\": 2, with a limit of 1"
+                                : "Too many fields in operation \"R\": 3, with a limit of 2");
+        else
+            give_back(&w);
+    }
+    sizes.most[0] = 9;
+    has_words(where, check_whole((const uint8_t *)"{ a ) }", 7, &limits, &none), FIRTHNAPKIN_SYNTAX_ERROR, 4,
+              "Unexpected \")\"");
+    has_words(where, check_whole((const uint8_t *)"{ a ) }", 7, &few, &sizes), FIRTHNAPKIN_TOO_MANY_TOKENS, 4,
+              "Too many tokens");
+    has_words(where, check_whole((const uint8_t *)"{...A}", 6, &limits, &sizes), FIRTHNAPKIN_UNKNOWN_FRAGMENT, 1,
+              "Unknown fragment");
+}
+
 static void all_rows(const char *where, threads wanted) {
     sigset_t mask;
     pthread_sigmask(SIG_SETMASK, NULL, &mask);
@@ -420,6 +451,7 @@ static void all_rows(const char *where, threads wanted) {
     text_rows(where, wanted, &mask);
     excerpt_rows(where, wanted, &mask);
     words_rows(where);
+    check_rows(where, wanted, &mask);
 }
 
 /* ---- Where they are made */

@@ -173,6 +173,19 @@ static answer checked_operations(const char *source) {
     return checked_within(source, 1000);
 }
 
+static answer whole_checked_within(const char *source, uint32_t fields) {
+    size_limits sizes = {{fields, UINT32_MAX, UINT32_MAX, UINT32_MAX, UINT32_MAX}};
+    return answer_of(check_whole((const uint8_t *)source, strlen(source), &DEFAULT, &sizes), 0);
+}
+
+static answer whole_checked(const char *source) {
+    return whole_checked_within(source, 1000);
+}
+
+static answer whole_checked_of_none(const char *source) {
+    return whole_checked_within(source, 0);
+}
+
 static answer whole_tokens(const char *source) {
     whole w = cut_whole((const uint8_t *)source, strlen(source), UINT32_MAX);
     return answer_of(w, w.tokens_count);
@@ -225,7 +238,11 @@ static void asks(answer (*call)(const char *), const char *source, long requests
 /* A count takes memory for the position of a token past the limit alone, in a source that isn't ASCII. A parse takes none of an
  * ASCII source, except for the words of an error and for a type with more modifiers than these. */
 #define EIGHT "{a}{a}{a}{a}{a}{a}{a}{a}"
-#define THIRTY_TWO EIGHT EIGHT EIGHT EIGHT
+#define SIXTY_FOUR EIGHT EIGHT EIGHT EIGHT EIGHT EIGHT EIGHT EIGHT
+#define TEN(text) text text text text text text text text text text
+/* So many operations that a check expects as many, and so many that it doesn't. */
+#define HUNDRED TEN(TEN("{a} # of 32 bytes and one line end\n"))
+#define THOUSAND TEN(TEN(TEN("{a}")))
 
 static void takes_little(void) {
     asks(count, "{ a", 0);
@@ -239,16 +256,19 @@ static void takes_little(void) {
     asks(parse, "query($v: [T]){a}", 0);
     asks(parse, "query($v: [T!]){a}", 0);
     asks(parse, "query($v: [T]!){a}", 1);
-    /* A check has no nodes, and an array for many operations alone. */
-    asks(checked, THIRTY_TWO, 0);
-    asks(checked, THIRTY_TWO "{a}", 0);
-    with_refused(parse_complexities, THIRTY_TWO, 0, 0);
-    asks(checked_operations, THIRTY_TWO, asked);
-    with_refused(parse_complexities, THIRTY_TWO "{a}", 0, 0);
-    asks(checked_operations, THIRTY_TWO "{a}", 2 * asked + 1);
+    /* A check has no nodes, and an array for many operations alone. It parses again where there are more than it expects. */
+    asks(checked, SIXTY_FOUR, 0);
+    asks(checked, SIXTY_FOUR "{a}", 0);
+    with_refused(parse_complexities, SIXTY_FOUR, 0, 0);
+    asks(checked_operations, SIXTY_FOUR, asked);
+    with_refused(parse_complexities, SIXTY_FOUR "{a}", 0, 0);
+    asks(checked_operations, SIXTY_FOUR "{a}", 2 * asked + 1);
+    with_refused(parse_complexities, HUNDRED, 0, 0);
+    asks(checked_operations, HUNDRED, asked + 1);
+    with_refused(parse_complexities, THOUSAND, 0, 0);
+    asks(checked_operations, THOUSAND, 2 * (asked + 1));
 }
 
-#define TEN(text) text text text text text text text text text text
 #define LONG_ERROR "query a " TEN(TEN("nnn"))
 
 int main(void) {
@@ -269,7 +289,9 @@ int main(void) {
         "{ ...A } fragment A on T { b { ...B } } fragment B on T { ...A }",
         LONG_ERROR,
         /* More operations than a check has room for at first. */
-        THIRTY_TWO EIGHT,
+        SIXTY_FOUR EIGHT,
+        HUNDRED,
+        THOUSAND,
     };
     for (size_t i = 0; i < sizeof sources / sizeof *sources; i++) {
         each(parse, sources[i]);
@@ -286,6 +308,8 @@ int main(void) {
         each(whole_complexities, sources[i]);
         each(checked, sources[i]);
         each(checked_operations, sources[i]);
+        each(whole_checked, sources[i]);
+        each(whole_checked_of_none, sources[i]);
         each(whole_tokens, sources[i]);
         each(whole_canonical, sources[i]);
         each(whole_excerpt, sources[i]);

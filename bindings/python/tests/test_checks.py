@@ -195,10 +195,13 @@ class Machine(unittest.TestCase):
             "taken = int(open('/proc/self/statm').read().split()[0]) * resource.getpagesize()\n"
             "resource.setrlimit(resource.RLIMIT_AS, (taken + 2**25, resource.RLIM_INFINITY))\n"
             "firthnapkin.check(source); firthnapkin.check(source, max_fields=2**24)\n"
+            "try: firthnapkin.check(source, max_fields=5)\n"
+            "except firthnapkin.FirthnapkinError as error: print(error.message)\n"
             "try: firthnapkin.parse(source)\n"
             "except MemoryError: print('memory')\n"
         )
-        self.assertEqual((found.returncode, found.stdout), (0, b"memory\n"), found.stderr)
+        wanted = b"Too many fields in an operation without a name: 8388608, with a limit of 5\nmemory\n"
+        self.assertEqual((found.returncode, found.stdout), (0, wanted), found.stderr)
 
     def test_memory(self) -> None:
         """The process goes on after memory has run out."""

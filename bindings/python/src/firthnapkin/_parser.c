@@ -4,7 +4,6 @@
 
 #include "_limits.h"
 #include "_slots.h"
-#include "check.h"
 #include "whole.h"
 
 /* A call's status and its bytes objects: `first`, the texts, and the complexities if `count` is 3. */
@@ -68,15 +67,6 @@ PyDoc_STRVAR(check_doc, "check(source, limits, /)\n--\n\n"
                         "The limits are those of parse. No document is built. Raises ValueError if the limits have another size,\n"
                         "and MemoryError if memory runs out.");
 
-/* What is found of a source, with the words of its error. */
-static whole checked(const uint8_t *source, size_t length, const package_limits *limits) {
-    finding found = check_source(source, length, &limits->call, &limits->sizes);
-    if (found.status == OPERATION_TOO_LARGE) return document_whole(source, length, &limits->call, &limits->sizes);
-    whole w = {.status = found.status, .error = found.error};
-    add_words(&w, source, length);
-    return w;
-}
-
 static PyObject *check(PyObject *module, PyObject *arguments) {
     package_limits limits;
     char *bytes;
@@ -84,7 +74,7 @@ static PyObject *check(PyObject *module, PyObject *arguments) {
     (void)module;
     if (!read_source(arguments, "SS:check", &bytes, &length, &limits)) return NULL;
     PyThreadState *state = PyEval_SaveThread();
-    whole w = checked((const uint8_t *)bytes, (size_t)length, &limits);
+    whole w = check_whole((const uint8_t *)bytes, (size_t)length, &limits.call, &limits.sizes);
     PyEval_RestoreThread(state);
     if (w.status != FIRTHNAPKIN_OK) return result_of(&w, NULL, 0, 2);
     Py_RETURN_NONE;
