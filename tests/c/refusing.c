@@ -20,11 +20,13 @@ static int is_refused(void) {
     return refused_request != 0 && (asked == refused_request || (is_onwards && asked > refused_request));
 }
 
+/* A block has no bytes of one that was freed before. */
 void *__wrap_malloc(size_t size) {
     if (is_refused()) return NULL;
     void *block = __real_malloc(size);
-    if (block != NULL) live++;
-    return block;
+    if (block == NULL) return NULL;
+    live++;
+    return memset(block, 0xA5, size);
 }
 
 void *__wrap_realloc(void *block, size_t size) {
@@ -173,9 +175,11 @@ static answer checked_operations(const char *source) {
     return checked_within(source, 1000);
 }
 
+/* With the end of the error among the lengths: an operation's is known once all of it is read. */
 static answer whole_checked_within(const char *source, uint32_t fields) {
     size_limits sizes = {{fields, UINT32_MAX, UINT32_MAX, UINT32_MAX, UINT32_MAX}};
-    return answer_of(check_whole((const uint8_t *)source, strlen(source), &DEFAULT, &sizes), 0);
+    whole w = check_whole((const uint8_t *)source, strlen(source), &DEFAULT, &sizes);
+    return answer_of(w, w.error.end.byte);
 }
 
 static answer whole_checked(const char *source) {
@@ -288,6 +292,8 @@ int main(void) {
         "{ ...A b { ...B } } fragment A on T { a @c ...B } fragment B on T { b ...C } fragment C on T { c } query Q { ...C }",
         "{ ...A } fragment A on T { b { ...B } } fragment B on T { ...A }",
         LONG_ERROR,
+        /* A type for which memory is asked, in an operation that can be past a limit. */
+        "query($v: [T]!) { a b }",
         /* More operations than a check has room for at first. */
         SIXTY_FOUR EIGHT,
         HUNDRED,
