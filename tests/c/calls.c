@@ -410,6 +410,11 @@ static void words_rows(const char *where) {
     has_words(where, excerpt_whole(source, 7, 8), FIRTHNAPKIN_INVALID_ERROR, 8, "");
 }
 
+/* A check in a frame of its own: each has an array, and little of a stack may be left. */
+__attribute__((noinline)) static whole checked(const char *source, const firthnapkin_limits *limits, const size_limits *sizes) {
+    return check_whole((const uint8_t *)source, strlen(source), limits, sizes);
+}
+
 /* What a check finds, and its words: those of an operation past a limit are of the first one that is. */
 static void check_rows(const char *where, threads wanted, const sigset_t *mask) {
     static const char source[] = "{a} query Q {b c} query R {d e f}";
@@ -419,7 +424,7 @@ static void check_rows(const char *where, threads wanted, const sigset_t *mask) 
     for (uint32_t most = 1; most <= 4; most++) {
         sizes.most[0] = most < 4 ? most : UINT32_MAX;
         begin();
-        whole w = check_whole((const uint8_t *)source, strlen(source), &limits, &sizes);
+        whole w = checked(source, &limits, &sizes);
         int is_large = most < 3;
         check(w.status == (is_large ? OPERATION_TOO_LARGE : FIRTHNAPKIN_OK) && seen.measures == (most < 4)
                   && seen.parses == (is_large || most == 4) && seen.messages == 0 && (is_large || w.texts_count == 0),
@@ -433,12 +438,9 @@ static void check_rows(const char *where, threads wanted, const sigset_t *mask) 
             give_back(&w);
     }
     sizes.most[0] = 9;
-    has_words(where, check_whole((const uint8_t *)"{ a ) }", 7, &limits, &none), FIRTHNAPKIN_SYNTAX_ERROR, 4,
-              "Unexpected \")\"");
-    has_words(where, check_whole((const uint8_t *)"{ a ) }", 7, &few, &sizes), FIRTHNAPKIN_TOO_MANY_TOKENS, 4,
-              "Too many tokens");
-    has_words(where, check_whole((const uint8_t *)"{...A}", 6, &limits, &sizes), FIRTHNAPKIN_UNKNOWN_FRAGMENT, 1,
-              "Unknown fragment");
+    has_words(where, checked("{ a ) }", &limits, &none), FIRTHNAPKIN_SYNTAX_ERROR, 4, "Unexpected \")\"");
+    has_words(where, checked("{ a ) }", &few, &sizes), FIRTHNAPKIN_TOO_MANY_TOKENS, 4, "Too many tokens");
+    has_words(where, checked("{...A}", &limits, &sizes), FIRTHNAPKIN_UNKNOWN_FRAGMENT, 1, "Unknown fragment");
 }
 
 static void all_rows(const char *where, threads wanted) {
@@ -500,7 +502,7 @@ static void in_thread(void *(*run)(void *), void *argument) {
 
 static void deep_in_stacks(void) {
     const depth_of_stack depths[] = {
-        {16000, ALL},
+        {20000, ALL},
         {FIRTHNAPKIN_STACK_SIZE(0) - 1000, ALL},
         {FIRTHNAPKIN_STACK_SIZE(0) + 2 * FRAMES, SOME},
         {FIRTHNAPKIN_STACK_SIZE(200) - 1000, SOME},
