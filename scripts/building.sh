@@ -60,10 +60,15 @@ sums_of() {
     (cd "$root" && sources_of "$@" | xargs -0 sha256sum 2>&1)
 }
 
-# is_current NAME: whether what a proof of this crate built is there, as it was built, and of the sources that are there now.
+# archive_for [PROCESSOR]: the proved archive of the library for C, which ./c-library links, for another processor than x86-64.
+archive_for() {
+    echo "$root/crates/juniper_c/out/${1:+$1/}libjuniper_c.a"
+}
+
+# is_current NAME [PRODUCT]: whether what a proof of this crate built is there, as it was built, and of the sources that are there
+# now. Another product than that of product_of may be named.
 is_current() {
-    local product list
-    product=$(product_of "$1")
+    local product=${2-$(product_of "$1")} list
     list=$(list_beside "$product")
     [ -e "$product" ] && [ -e "$list" ] && { sums_of $(crates_below "$1") && sha256sum < "$product"; } | cmp -s - "$list"
 }
@@ -78,11 +83,10 @@ times_of() {
     (cd "$root" && sources_of $(crates_below "$1") | xargs -0 stat -c '%n %.9Z' 2>&1)
 }
 
-# keep_list FOLDER NAME: keeps beside this crate's product the list of the sources that were noted before it was built. If
-# one was changed since, the product may be of either text, so it gets no list.
+# keep_list FOLDER NAME [PRODUCT]: keeps beside this crate's product the list of the sources that were noted before it was built.
+# If one was changed since, the product may be of either text, so it gets no list.
 keep_list() {
-    local product list
-    product=$(product_of "$2")
+    local product=${3-$(product_of "$2")} list
     list=$(list_beside "$product")
     rm -f "$list"
     if [ -e "$product" ] && times_of "$2" | cmp -s - "$1/$2.times"; then
@@ -90,14 +94,23 @@ keep_list() {
     fi
 }
 
-# The sums of what ./c-library links, of that script, which says how, and of what it made. False if one is missing.
+# sums_of_link [PROCESSOR]: the sums of what ./c-library links, of what says how, and of what it made, for x86-64 if none is named.
+# False if one is missing.
 sums_of_link() {
-    (cd "$root" && sha256sum crates/juniper_c/out/libjuniper_c.a c-library out/libfirthnapkin.{a,so.0,so} 2> /dev/null)
+    local inside=out/${1:+$1/} sources=(c-library)
+    [ $# = 0 ] || sources+=(scripts/heap.c)
+    (cd "$root" && sha256sum "crates/juniper_c/${inside}libjuniper_c.a" "${sources[@]}" "$inside"libfirthnapkin.{a,so.0,so} 2> /dev/null)
 }
 
-# Whether the library for C is there as ./c-library linked it.
+# is_linked [PROCESSOR]: whether the library for C is there as ./c-library linked it.
 is_linked() {
-    [ -e "$root/out/libfirthnapkin.sources" ] && sums_of_link | cmp -s - "$root/out/libfirthnapkin.sources"
+    local stamp=$root/out/${1:+$1/}libfirthnapkin.sources
+    [ -e "$stamp" ] && sums_of_link "$@" | cmp -s - "$stamp"
+}
+
+# has_library [PROCESSOR]: whether it is, of the sources that are there.
+has_library() {
+    is_current juniper_c "$(archive_for "$@")" && is_linked "$@"
 }
 
 # Sets $python to a Python that can build the package, and to nothing if there is none.

@@ -2,10 +2,11 @@
 # puts the same files into what it makes for C. It is sourced after scripts/building.sh, with the repository's folder in $root.
 # shellcheck shell=bash
 
-# The files of the library: for each its mode, its name below PREFIX, and the file of the repository.
-LIBRARY='644 include/firthnapkin.h include/firthnapkin.h
-644 lib/libfirthnapkin.a out/libfirthnapkin.a
-755 lib/libfirthnapkin.so.0 out/libfirthnapkin.so.0
+# The files of the library: for each its mode, its name below PREFIX, and the file of the repository, where LIBRARY stands for the
+# folder of its processor.
+FILES='644 include/firthnapkin.h include/firthnapkin.h
+644 lib/libfirthnapkin.a LIBRARY/libfirthnapkin.a
+755 lib/libfirthnapkin.so.0 LIBRARY/libfirthnapkin.so.0
 644 share/man/man3/firthnapkin.3 docs/man/firthnapkin.3'
 LIST=share/firthnapkin/installed
 
@@ -15,17 +16,18 @@ is_tellable() {
 }
 
 # Installs below $prefix, which is absolute and without `..`, or below $DESTDIR and there below $prefix. It sets $below to the
-# folder where it does. False if something couldn't be installed. A program that isn't built of the sources that are there is
-# left out with its man page, and a line on standard error says so.
+# folder where it does. False if something couldn't be installed. A program that isn't built of the sources that are there, or for
+# $processor, is left out with its man page, and a line on standard error says so.
 install_below() {
-    local name left='' installed=()
+    local name left='' installed=() why="./prove hasn't built them of these sources"
+    [ -z "$processor" ] || why="they are built for x86-64 alone"
     set_folders
-    put_library && put_text lib/pkgconfig/firthnapkin.pc "$(package "$(escaped "$prefix")")" || return
+    put_library $processor && put_text lib/pkgconfig/firthnapkin.pc "$(package "$(escaped "$prefix")")" || return
     for name in gqlcheck gqlcanon; do
-        if is_current "$name"; then put_program "$name" || return; else left+=" $name"; fi
+        if [ -z "$processor" ] && is_current "$name"; then put_program "$name" || return; else left+=" $name"; fi
     done
     put_list $left || return
-    [ -z "$left" ] || echo "c-library: left out with their man pages, since ./prove hasn't built them of these sources:$left" >&2
+    [ -z "$left" ] || echo "c-library: left out with their man pages, since $why:$left" >&2
 }
 
 # Sets $below to the folder below which files are put, and $inside to where that has to be. PREFIX alone may be a link. Within
@@ -44,9 +46,12 @@ set_folders() {
     inside=${inside%/}
 }
 
+# put_library [PROCESSOR]: puts the library for x86-64, or for another processor.
 put_library() {
     local mode name source
-    while read -r mode name source; do put "$mode" "$name" "$root/$source" || return; done <<< "$LIBRARY"
+    while read -r mode name source; do
+        put "$mode" "$name" "$root/${source/#LIBRARY/out${1:+/$1}}" || return
+    done <<< "$FILES"
     ln -sfT libfirthnapkin.so.0 "$below/lib/libfirthnapkin.so" && installed+=(lib/libfirthnapkin.so)
 }
 
