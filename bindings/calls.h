@@ -9,6 +9,7 @@
 #include "firthnapkin.h"
 #include <pthread.h>
 #include <signal.h>
+#include <unistd.h>
 
 /* How many bytes of this thread's stack are left: 0 if that isn't known, as on a stack that the program made itself. */
 static inline size_t stack_left(void) {
@@ -67,9 +68,10 @@ static inline void run_thread(size_t bytes, stack_call *call) {
  * thread knows how much they leave. So one that has too little ends, and another has a larger margin. Memory that is not written
  * to costs nothing. */
 static inline void run_in_thread(stack_call call) {
-    enum { PAGE = 1 << 12, LEAST_MARGIN = 1 << 16, MOST_MARGIN = 1 << 28 };
+    enum { LEAST_MARGIN = 1 << 16, MOST_MARGIN = 1 << 28 };
+    size_t page = (size_t)sysconf(_SC_PAGESIZE);
     for (size_t margin = LEAST_MARGIN; margin <= MOST_MARGIN && !call.has_run; margin *= 16)
-        run_thread((call.size + margin) / PAGE * PAGE, &call);
+        run_thread((call.size + margin) / page * page, &call);
 }
 
 /* Makes a call that takes at most so many bytes of stack: on this thread's if enough is left, otherwise in a thread of its

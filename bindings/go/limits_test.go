@@ -141,7 +141,7 @@ func TestGoroutines(t *testing.T) {
 	wait.Wait()
 }
 
-// A process whose threads have stacks of 256 KiB.
+// A process whose threads have stacks of 256 KiB. FIRTHNAPKIN_RUNNER is what runs a program of another processor.
 func TestSmallStacks(t *testing.T) {
 	if os.Getenv("FIRTHNAPKIN_SMALL_STACK") != "" {
 		for _, part := range []string{"{...", "{a", "{a(x:{k:", "query($a:["} {
@@ -155,7 +155,7 @@ func TestSmallStacks(t *testing.T) {
 	if err != nil {
 		t.Skip("no shell that sets the size of a stack")
 	}
-	command := exec.Command(shell, "-c", `ulimit -s 256 && exec "$0" -test.run '^TestSmallStacks$'`, os.Args[0])
+	command := exec.Command(shell, "-c", `ulimit -s 256 && exec $FIRTHNAPKIN_RUNNER "$0" -test.run '^TestSmallStacks$'`, os.Args[0])
 	command.Env = append(os.Environ(), "FIRTHNAPKIN_SMALL_STACK=yes")
 	if output, err := command.CombinedOutput(); err != nil {
 		t.Errorf("%v: %s", err, output)

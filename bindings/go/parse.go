@@ -1,4 +1,4 @@
-//go:build linux && amd64 && cgo
+//go:build linux && (amd64 || arm64) && cgo
 
 // Package firthnapkin parses GraphQL's executable documents (October 2021): operations, fragments and what is in them.
 //
@@ -22,7 +22,9 @@ package firthnapkin
 
 /*
 #cgo CFLAGS: -D_GNU_SOURCE -I${SRCDIR}/native -I${SRCDIR}/../../include -I${SRCDIR}/..
-#cgo LDFLAGS: -L${SRCDIR}/native -L${SRCDIR}/../../out -l:libfirthnapkin.a -pthread
+#cgo amd64 LDFLAGS: -L${SRCDIR}/native -L${SRCDIR}/../../out
+#cgo arm64 LDFLAGS: -L${SRCDIR}/native/aarch64 -L${SRCDIR}/../../out/aarch64
+#cgo LDFLAGS: -l:libfirthnapkin.a -pthread
 #include "calls.h"
 #include "sizes.h"
 
@@ -61,6 +63,7 @@ import (
 	"unsafe"
 
 	_ "firthnapkin.example/go/native" // so that go mod vendor copies the archive and the headers
+	_ "firthnapkin.example/go/native/aarch64"
 )
 
 // MaxDepth is the largest depth that ParseWithin takes.

@@ -1,18 +1,23 @@
 // Builds the addon with a C compiler, over the archive and the headers that Node comes with, and writes lib/limits.d.ts. A release has
 // both, and the archive: if this Node loads the addon, nothing is left to do. In the repository ./c-library builds the archive.
+//
+//     node build.js [PROCESSOR]    for another processor, which $CC compiles for: x64 or arm64
 "use strict";
 
 const { execFileSync } = require("child_process");
 const fs = require("fs");
 const os = require("os");
 const path = require("path");
+const { nameFor } = require("./lib/addon");
 
+const processor = process.argv[2] || process.arch;
+const folder = processor === "arm64" ? "aarch64" : "";
 const inside = path.join(__dirname, "native");
 const isRelease = fs.existsSync(inside);
 const root = path.join(__dirname, "..", "..");
-const library = path.join(isRelease ? inside : path.join(root, "out"), "libfirthnapkin.a");
+const library = path.join(isRelease ? inside : path.join(root, "out"), folder, "libfirthnapkin.a");
 const headers = path.join(path.dirname(fs.realpathSync(process.execPath)), "..", "include", "node");
-const output = path.join(__dirname, "firthnapkin.node");
+const output = path.join(__dirname, nameFor(processor));
 
 function fail(words) {
   console.error(`firthnapkin${words}`);
@@ -27,10 +32,11 @@ function suffices(version) {
 
 function checkMachine() {
   const glibc = process.report.getReport().header.glibcVersionRuntime;
-  const processor = process.arch === "x64" && os.machine ? os.machine() : process.arch;
-  if (process.platform !== "linux" || !["x64", "x86_64"].includes(processor) || !glibc || !suffices(glibc)) {
-    const found = `${os.type()} on ${processor} with ${glibc ? `glibc ${glibc}` : "a C library that is not glibc"}`;
-    fail(` is for Linux on x86-64 with glibc 2.17 or later, and this machine is ${found}`);
+  const machine = ["x64", "arm64"].includes(process.arch) && os.machine ? os.machine() : process.arch;
+  const isKnown = ["x64", "x86_64", "arm64", "aarch64"].includes(machine);
+  if (process.platform !== "linux" || !isKnown || !glibc || !suffices(glibc)) {
+    const found = `${os.type()} on ${machine} with ${glibc ? `glibc ${glibc}` : "a C library that is not glibc"}`;
+    fail(` is for Linux on x86-64 or aarch64 with glibc 2.17 or later, and this machine is ${found}`);
   }
 }
 
@@ -45,7 +51,7 @@ function isBuilt() {
 
 function build() {
   for (const [file, hint] of [
-    [library, "./c-library builds it, in the repository's folder"],
+    [library, `./c-library${folder && ` --target ${folder}`} builds it, in the repository's folder`],
     [path.join(headers, "node_api.h"), "it comes with Node's headers"],
   ]) {
     if (!fs.existsSync(file)) fail(`: ${file} is not there: ${hint}`);
@@ -53,7 +59,7 @@ function build() {
   const folders = isRelease ? [inside, headers] : [path.join(root, "include"), path.join(root, "bindings"), headers];
   const words = ["-O2", "-Wall", "-Wextra", "-fPIC", "-shared", "-pthread", ...folders.map((folder) => `-I${folder}`)];
   execFileSync(process.env.CC || "cc", [...words, "-o", output, path.join(__dirname, "addon.c"), library], { stdio: "inherit" });
-  fs.writeFileSync(path.join(__dirname, "lib", "limits.d.ts"), require("./lib/limits").declaration());
+  if (processor === process.arch) fs.writeFileSync(path.join(__dirname, "lib", "limits.d.ts"), require("./lib/limits").declaration());
 }
 
 checkMachine();

@@ -7,6 +7,7 @@ it gets --no-build-isolation. Without one only the newer releases do.
 import os
 import platform
 import sys
+import sysconfig
 from pathlib import Path
 
 from setuptools import Extension, setup
@@ -14,10 +15,12 @@ from setuptools.command.build_py import build_py
 
 HERE = Path(__file__).resolve().parent
 ROOT = HERE.parent.parent
-# A source distribution has the archive, the headers and the version inside, and the changes beside this file.
+# A source distribution has the archives, the headers and the version inside, and the changes beside this file.
 INSIDE = HERE / "native"
 IS_RELEASE = INSIDE.exists()
-LIBRARY = (INSIDE if IS_RELEASE else ROOT / "out") / "libfirthnapkin.a"
+# _PYTHON_HOST_PLATFORM=linux-aarch64 makes Python build for that processor on another one.
+PROCESSOR = "aarch64" if sysconfig.get_platform() == "linux-aarch64" else ""
+LIBRARY = (INSIDE if IS_RELEASE else ROOT / "out") / PROCESSOR / "libfirthnapkin.a"
 HEADERS = [INSIDE] if IS_RELEASE else [ROOT / "include", ROOT / "bindings"]
 VERSION = (INSIDE if IS_RELEASE else ROOT) / "VERSION"
 CHANGES = (HERE if IS_RELEASE else ROOT) / "CHANGELOG.md"
@@ -32,14 +35,16 @@ def machine():
     bits = "" if sys.maxsize > 2**32 else ", with a Python of 32 bits"
     name = f"{platform.system()} on {platform.machine()} with {library or 'a C library that is not glibc'}{bits}"
     version = [int(part) for part in library.replace("glibc ", "").split(".") if part.isdigit()]
-    return name, name.startswith("Linux on x86_64 with glibc ") and not bits and version >= [2, 17]
+    is_known = name.startswith(("Linux on x86_64 with glibc ", "Linux on aarch64 with glibc "))
+    return name, is_known and not bits and version >= [2, 17]
 
 
 found, is_supported = machine()
 if not is_supported:
-    sys.exit(f"firthnapkin is for Linux on x86-64 with glibc 2.17 or later, and this machine is {found}")
+    sys.exit(f"firthnapkin is for Linux on x86-64 or aarch64 with glibc 2.17 or later, and this machine is {found}")
 if not LIBRARY.exists():
-    sys.exit(f"{LIBRARY} is not there: ./c-library builds it, in the repository's folder")
+    target = f" --target {PROCESSOR}" if PROCESSOR else ""
+    sys.exit(f"{LIBRARY} is not there: ./c-library{target} builds it, in the repository's folder")
 
 
 def extension(name):

@@ -1,7 +1,7 @@
 // The addon's calls, and what is asked of their arguments.
 "use strict";
 
-const addon = require("../firthnapkin.node");
+const { addon } = require("./addon");
 const { LIMITS, SIZES } = require("./limits");
 
 const LARGEST_WORD = 2 ** 32 - 1;

@@ -1,7 +1,7 @@
 // The limits of `parse`: the options that it takes beside the name of the source, and their types for TypeScript.
 "use strict";
 
-const { MAX_DEPTH } = require("../firthnapkin.node");
+const { MAX_DEPTH } = require("./addon").addon;
 
 const ANY = Number.MAX_SAFE_INTEGER;
 // The largest number of an operation stands for all above it, too, so it is no limit.

@@ -7,7 +7,7 @@ const fs = require("fs");
 const { test } = require("node:test");
 const path = require("path");
 
-const addon = require("../firthnapkin.node");
+const { addon } = require("../lib/addon");
 const { check, parse, FirthnapkinError } = require("..");
 
 /** What a call throws for a source, without the stack; undefined if it returns. */

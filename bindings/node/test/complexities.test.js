@@ -4,7 +4,7 @@
 const assert = require("node:assert");
 const test = require("node:test");
 
-const addon = require("../firthnapkin.node");
+const { addon } = require("../lib/addon");
 const { parse, FirthnapkinError } = require("..");
 
 const SIZES = ["maxFields", "maxAliases", "maxDirectives", "maxRootFields", "maxFieldDepth"];

@@ -7,7 +7,7 @@ const { test } = require("node:test");
 const path = require("path");
 const { Worker } = require("worker_threads");
 
-const addon = require("../firthnapkin.node");
+const { addon } = require("../lib/addon");
 const { parse, FirthnapkinError } = require("..");
 const { limitsOf } = require("../lib/calls");
 

@@ -118,7 +118,7 @@ test("memory that JavaScript can't allocate", () => {
 });
 
 test("the addon takes no other arguments", () => {
-  const addon = require("../firthnapkin.node");
+  const { addon } = require("../lib/addon");
   const allocate = (size) => new ArrayBuffer(size);
   const source = Buffer.from("{ a }");
   const limits = Uint32Array.of(5, 5, 0, 0, 0, 0, 0, 0, ...new Array(5).fill(2 ** 32 - 1));
