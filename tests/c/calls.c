@@ -1,7 +1,8 @@
 /* What bindings/calls.h and bindings/whole.h do around the library's calls: which stack each call gets, what becomes of the
  * thread's signals, how many calls are made, and what is returned if no thread can be made.
  *
- * THREAD_LOCAL is how many bytes each thread has of its own. */
+ * THREAD_LOCAL is how many bytes each thread has of its own. IS_EMULATED says that qemu-user runs the program: it blocks neither
+ * signal 63 nor 64, and with pages of 64 KiB it doesn't show the first thread's stack. */
 #define _GNU_SOURCE
 #include "../../include/firthnapkin.h"
 #include "checks.h"
@@ -10,7 +11,9 @@
 #include <signal.h>
 #include <stdlib.h>
 #include <string.h>
+#ifdef __GLIBC__
 #include <ucontext.h>
+#endif
 
 #ifndef THREAD_LOCAL
 #define THREAD_LOCAL 1
@@ -45,14 +48,31 @@ static struct {
 /* Whether a thread can't be made, and whether none can be asked for its stack. */
 static int is_refused_thread, is_refused_look;
 
+/* The signals that can be blocked here. */
+static sigset_t blockable;
+
+/* Finds them, and checks that they are all but SIGKILL, SIGSTOP, and those of the C library, which are before SIGRTMIN, and of
+ * qemu-user. */
+static void find_blockable(void) {
+    sigset_t all, before;
+    int last = SIGRTMAX;
+    sigfillset(&all);
+    pthread_sigmask(SIG_SETMASK, &all, &before);
+    pthread_sigmask(SIG_SETMASK, &before, &blockable);
+#ifdef IS_EMULATED
+    last -= 2;
+#endif
+    for (int number = 1; number <= last; number++) {
+        int is_kept = number == SIGKILL || number == SIGSTOP || (number >= 32 && number < SIGRTMIN);
+        check(is_kept || sigismember(&blockable, number) == 1, "signal %d can't be blocked", number);
+    }
+}
+
 static int all_are_blocked(void) {
     sigset_t mask;
     pthread_sigmask(SIG_SETMASK, NULL, &mask);
-    for (int number = 1; number <= SIGRTMAX; number++) {
-        /* The first two can't be blocked, and those before SIGRTMIN are the C library's own. */
-        int is_free = number == SIGKILL || number == SIGSTOP || (number >= 32 && number < SIGRTMIN);
-        if (!is_free && sigismember(&mask, number) != 1) return 0;
-    }
+    for (int number = 1; number <= SIGRTMAX; number++)
+        if (sigismember(&blockable, number) == 1 && sigismember(&mask, number) != 1) return 0;
     return 1;
 }
 
@@ -493,7 +513,7 @@ static void *deep(void *argument) {
 static void in_thread(void *(*run)(void *), void *argument) {
     pthread_attr_t attributes;
     pthread_t thread;
-    size_t size = (FIRTHNAPKIN_STACK_SIZE(FIRTHNAPKIN_MAX_DEPTH) + THREAD_LOCAL + (1 << 18)) / 4096 * 4096;
+    size_t size = FIRTHNAPKIN_STACK_SIZE(FIRTHNAPKIN_MAX_DEPTH) + THREAD_LOCAL + (1 << 18);
     if (pthread_attr_init(&attributes) || pthread_attr_setstacksize(&attributes, size)
         || pthread_create(&thread, &attributes, run, argument) || pthread_join(thread, NULL))
         abort();
@@ -516,7 +536,8 @@ static void deep_in_stacks(void) {
     }
 }
 
-/* On a stack that the program made, whose bounds no thread knows. */
+/* On a stack that the program made, whose bounds no thread knows. musl has no calls that change stacks. */
+#ifdef __GLIBC__
 static ucontext_t outside, inside;
 
 static void on_own_stack(void) {
@@ -535,6 +556,10 @@ static void on_stack_of_program(void) {
     if (swapcontext(&outside, &inside)) abort();
     free(stack);
 }
+#else
+static void on_stack_of_program(void) {
+}
+#endif
 
 /* ---- If no thread can be made, or its stack isn't known */
 
@@ -591,9 +616,24 @@ static void *without_looks(void *argument) {
     return NULL;
 }
 
+/* Which calls from the first thread are made in another one: none if it knows its stack. To musl its stack is what was used of it. */
+static threads from_first_thread(void) {
+#ifndef __GLIBC__
+    return SOME;
+#else
+#ifdef IS_EMULATED
+    pthread_attr_t attributes;
+    if (pthread_getattr_np(pthread_self(), &attributes) != 0) return ALL;
+    pthread_attr_destroy(&attributes);
+#endif
+    return NONE;
+#endif
+}
+
 int main(void) {
     own[0] = 1;
-    all_rows("the first thread", NONE);
+    find_blockable();
+    all_rows("the first thread", from_first_thread());
     deep_in_stacks();
     on_stack_of_program();
     in_thread(without_threads, NULL);

@@ -9,20 +9,20 @@ typedef uint32_t words_call(const uint8_t *, size_t, const firthnapkin_error *, 
 
 /* ---- sources between pages that can't be read */
 
-enum { PAGE = 4096, MOST = 2 * PAGE };
-
+/* A page that can't be read, pages for the source, and one more that can't be read. */
 static uint8_t *pages;
 
 /* The source, directly before a page that can't be read, or directly after one. */
 static const uint8_t *guarded(const char *source, size_t length, int is_first) {
-    uint8_t *at = pages + PAGE + (is_first ? 0 : MOST - length);
+    uint8_t *at = pages + page_size() + (is_first ? 0 : 2 * page_size() - length);
     memcpy(at, source, length);
     return at;
 }
 
 static void make_pages(void) {
-    pages = mmap(NULL, MOST + 2 * PAGE, PROT_READ | PROT_WRITE, MAP_PRIVATE | MAP_ANONYMOUS, -1, 0);
-    if (pages == MAP_FAILED || mprotect(pages, PAGE, PROT_NONE) || mprotect(pages + PAGE + MOST, PAGE, PROT_NONE)) abort();
+    size_t page = page_size();
+    pages = mmap(NULL, 4 * page, PROT_READ | PROT_WRITE, MAP_PRIVATE | MAP_ANONYMOUS, -1, 0);
+    if (pages == MAP_FAILED || mprotect(pages, page, PROT_NONE) || mprotect(pages + 3 * page, page, PROT_NONE)) abort();
 }
 
 /* ---- what calls give */

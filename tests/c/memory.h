@@ -8,6 +8,7 @@
 #include <stdlib.h>
 #include <string.h>
 #include <sys/mman.h>
+#include <unistd.h>
 
 enum { CANARY = 0xA5, BEYOND = 64 };
 
@@ -54,19 +55,28 @@ static inline void in_threads(void *(*run)(void *)) {
     }
 }
 
-/* Runs it in a thread with as much stack as the header says for this depth, beside memory that nothing may touch. */
+/* How many bytes a page has here: 4,096, and up to 65,536 on aarch64. */
+static inline size_t page_size(void) {
+    return (size_t)sysconf(_SC_PAGESIZE);
+}
+
+static inline size_t whole_pages(size_t size) {
+    return (size + page_size() - 1) / page_size() * page_size();
+}
+
+/* Runs it in a thread with as much stack as the header says for this depth, and pages below that nothing may touch. These pages are
+ * part of the thread's stack, since each C library wants one of some size: glibc on aarch64 one of 128 KiB. */
 static inline void on_stack(uint32_t depth, void *(*run)(void *), void *argument) {
-    enum { PAGE = 4096, GUARD = 16 * PAGE };
-    size_t size = (FIRTHNAPKIN_STACK_SIZE(depth) + PAGE - 1) / PAGE * PAGE;
-    char *memory = mmap(NULL, GUARD + size, PROT_READ | PROT_WRITE, MAP_PRIVATE | MAP_ANONYMOUS, -1, 0);
+    size_t guard = whole_pages(1 << 18), size = whole_pages(FIRTHNAPKIN_STACK_SIZE(depth));
+    char *memory = mmap(NULL, guard + size, PROT_READ | PROT_WRITE, MAP_PRIVATE | MAP_ANONYMOUS, -1, 0);
     pthread_attr_t attributes;
     pthread_t thread;
-    if (memory == MAP_FAILED || mprotect(memory, GUARD, PROT_NONE) || pthread_attr_init(&attributes)
-        || pthread_attr_setstack(&attributes, memory + GUARD, size) || pthread_create(&thread, &attributes, run, argument)
+    if (memory == MAP_FAILED || mprotect(memory, guard, PROT_NONE) || pthread_attr_init(&attributes)
+        || pthread_attr_setstack(&attributes, memory, guard + size) || pthread_create(&thread, &attributes, run, argument)
         || pthread_join(thread, NULL))
         abort();
     pthread_attr_destroy(&attributes);
-    munmap(memory, GUARD + size);
+    munmap(memory, guard + size);
 }
 
 #endif
