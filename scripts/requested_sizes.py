@@ -6,7 +6,7 @@ ONE = "one more than there are"
 BYTES = "at most one for each byte that it reads"
 TOLD = "its caller says how many"
 FIXED = "the same for each input"
-GUESS = "as many as most inputs have; a list that is full requests more"
+GUESS = "what most inputs need; a list that is full requests more"
 
 # file, function: each request for memory of a size, as `sizes` writes it, and what its size is made of.
 SIZES = {
