@@ -44,14 +44,14 @@ loop-bytes-preserved-in-Hash c =
     comment_on c.args.source.now bytes c.args.start.place.index here c.utf8.source
     c.as_bytes-bytes.ensures.value c.loop-bytes.invariant (omega (arith, c.bytes.ensures, c.loop-bytes-test.true))
     small _
-    c.run_over-comment.result
+    c.over_comment-comment.result
     (sym c.in-Hash.is ∙ c.byte_class-class.ensures
     ∙ ap (λ i. class_of (get_or c.as_bytes-bytes.result.now i 0)) c.bytes-in-loop-bytes.ensures)
-    (subst (λ t. RunsTo run.Comment t c.run_over-comment.result) tail c.run_over-comment.ensures.runs)
+    (subst (λ t. RunsTo run.Comment t c.over_comment-comment.result) tail c.over_comment-comment.ensures.runs)
     (c.past-here.ensures
     ∙ ap (λ (p : BytePlace). record {
-      byte = p.byte + c.run_over-comment.result.bytes;
-      place = columns_on c.run_over-comment.result.characters p.place;
+      byte = p.byte + c.over_comment-comment.result.bytes;
+      place = columns_on c.over_comment-comment.result.characters p.place;
     }) c.past_column.ensures)
 
 pub returns-then-not-is_mark_at : goal.returns-then-not-is_mark_at
