@@ -221,7 +221,7 @@ SPREAD = ("spaces", "fields")
 # a text past ASCII, a canonical text, an error's words and what it notes of each operation, and else nothing but what the program
 # that calls it writes its lines with.
 HELD = [
-    (["run_calls", "calls", "parse", "into"], "definitions", 1, 60),
+    (["run_calls", "calls", "parse", "into"], "definitions", 0, 0.01),
     (["run_calls", "calls", "parse", "200"], "definitions", 60, 80),
     (["c", "parse"], "definitions", 0, 0.01),
     (["c", "parse"], "fields in fields", 0, 0.01),

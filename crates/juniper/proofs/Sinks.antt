@@ -1,6 +1,6 @@
 -- What takes definitions, and grows.
 use Rattle.std.proofs.Common.{◌≡◌, ◌⊎◌, inl, inr, List, ◌++◌, [], ◌∷◌, ℕ, refl, sym, ap, subst, ◌∙◌, append_assoc, append-nil}
-use Rattle.std.specs.Prelude.{Result, Ok, Err, IfOk, Option, Some, None}
+use Rattle.std.specs.Prelude.{Ok, Option, Some, None}
 use Rattle.graphql_lexical.specs.Cutting.{Lexeme, Cut}
 use Rattle.graphql_lexical.specs.Nesting.{end_after}
 use Rattle.graphql_lexical.proofs.Public.{one_cut_or_break}
@@ -12,8 +12,7 @@ use Rattle.juniper_tokens.specs.Cursor.{EndsOnce}
 use Rattle.juniper_tokens.specs.Errors.{Error}
 use Rattle.juniper_tokens.specs.Nesting.{EndsAtNesting}
 use Rattle.juniper_tokens.specs.declared.span.Span as spans
-use Rattle.juniper.specs.declared.parser.document.depth.DepthFailure.{DepthFailure}
-use Rattle.juniper.specs.Sinks.{StandInFront, Gains, GainsTree, GainsFront, GainsBeforeEnd, GivesWithin}
+use Rattle.juniper.specs.Sinks.{StandInFront, Gains, GainsTree, GainsFront, GainsBeforeEnd}
 use Rattle.juniper.specs.device.Steps.{cursor}
 use Rattle.juniper.proofs.Readings.{definition_taken}
 
@@ -161,10 +160,3 @@ module _ {D C : Type 0} (holds : List ℕ → D → List (Definition C) → Type
         ((one_cut_or_break source).one_cut ts lexemes cut other) (stand_in_all S depth source ts left deep h.given cut e h.in_front);
     none = λ error at broken. absurd ((one_cut_or_break source).never_both ts error at cut broken);
   }
-
-  -- What is given of a text within a limit is its tree, where it has one.
-  pub gains_tree : {X : Type 0} (S : Scalars C Error) (depth : ℕ) (source : List ℕ) (old new : D)
-      (result : Result X DepthFailure)
-      → GivesWithin holds old new S depth source result → IfOk result (λ x. GainsTree holds old new S source)
-  gains_tree S depth source old new (Ok x) p = record { tree = p.tree; has_tree = p.answers.accepted; gains = p.gains }
-  gains_tree S depth source old new (Err e) p = tt

@@ -1,5 +1,5 @@
 -- A sink of the definitions of a document, and what it is given.
-use Rattle.std.specs.Prelude.{◌≡◌, ℕ, List, [], ◌∷◌, ◌++◌, Result, Ok, Err, OnOk}
+use Rattle.std.specs.Prelude.{◌≡◌, ℕ, List, [], ◌∷◌, ◌++◌, Result, Ok, Err}
 use Rattle.graphql_lexical.specs.Place.{Place}
 use Rattle.graphql_lexical.specs.Kinds.{LexicalError}
 use Rattle.graphql_lexical.specs.Cutting.{Lexeme, Cut, Breaks}
@@ -8,9 +8,7 @@ use Rattle.graphql_grammar.specs.Grammar.{Each, IsDefinition}
 use Rattle.juniper_tokens.specs.declared.error.ParseFailure.{ParseFailure}
 use Rattle.juniper_tokens.specs.Errors.{Error}
 use Rattle.juniper_tokens.specs.Cursor.{Read, Fails}
-use Rattle.juniper.specs.declared.parser.document.depth.DepthFailure.{DepthFailure}
 use Rattle.juniper.specs.Promise.{HasTree}
-use Rattle.juniper.specs.Within.{ReturnsWithin}
 
 -- These definitions stand at the front of the tokens, in a row.
 pub record StandInFront {C : Type 0} (S : Scalars C Error) (lexemes : List Lexeme)
@@ -51,10 +49,3 @@ module _ {D C : Type 0} (holds : List ℕ → D → List (Definition C) → Type
   abbrev pub GivesAs : {X : Type 0} → Result X ParseFailure → Read (List (Definition C)) → Type 0
   GivesAs (Ok x) read = (tree : List (Definition C)) × (left : List Lexeme) × (read ≡ Ok (tree, left)) × Gains tree
   GivesAs (Err e) read = (left : List Lexeme) × Fails e left read
-
-  -- The same within a limit on nesting, in the words of the grammar.
-  pub record GivesWithin {X : Type 0} (S : Scalars C Error) (depth : ℕ) (source : List ℕ)
-      (result : Result X DepthFailure) : Type 0 where
-    pub tree : List (Definition C)
-    pub answers : ReturnsWithin S depth source (λ x. tree) result
-    pub gains : OnOk result (Gains tree)

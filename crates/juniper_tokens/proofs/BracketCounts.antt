@@ -1,5 +1,5 @@
 -- Tokens whose brackets are counted one after another, up to the first that is nested too deep.
-use Rattle.std.proofs.Common.{◌≡◌, ℕ, ◌+◌, ◌-◌, ◌<◌, ◌≤◌, true, false, List, [], ◌∷◌, ◌++◌, length, cond}
+use Rattle.std.proofs.Common.{◌≡◌, Bool, ℕ, ◌+◌, ◌-◌, ◌<◌, ◌≤◌, true, false, List, [], ◌∷◌, ◌++◌, length, cond}
 use Rattle.std.proofs.Common.{Some, None, refl, sym, ap, ap₂, subst, ◌∙◌, arith, append_assoc, length-append}
 use Rattle.std.specs.Prelude.{Option, pos, ◌-ℤ◌, ◌<ℤ◌, ◌≤ℤ◌}
 use Rattle.std.specs.Option.{is_some}
@@ -13,7 +13,20 @@ use Rattle.juniper_tokens.specs.declared.span.Span.{Span}
 use Rattle.juniper_tokens.specs.Spans.{view_span}
 use Rattle.juniper_tokens.specs.Nesting.{EndsAtNesting, IsShallow}
 use Rattle.juniper_tokens.specs.device.Nested.{NestedAs}
-use Rattle.juniper_tokens.proofs.DeepRanges.{above, not_above, none_counted}
+
+-- a difference that is not above depth, and one that is
+not_above : (a b depth : ℕ) → a - b ≤ depth → (pos a -ℤ pos b) ≤ℤ pos depth
+not_above a b depth h = omega (arith, ints)
+
+above : (a b depth : ℕ) → depth < a - b → pos depth <ℤ (pos a -ℤ pos b)
+above a b depth h = omega (arith, ints)
+
+-- one bracket more, or none
+pub one_counted : (n : ℕ) (b : Bool) → b ≡ true → n + 1 ≡ n + cond b 1 0
+one_counted n b e = rw e refl
+
+pub none_counted : (n : ℕ) (b : Bool) → b ≡ false → n ≡ n + cond b 1 0
+none_counted n b e = rw e (omega arith)
 
 -- a list that ends before the last token is the front of the others
 front_within : (ts front : List Lexeme) (t o : Lexeme) (os : List Lexeme) → ts ++ t ∷ [] ≡ front ++ o ∷ os

@@ -20,9 +20,9 @@ use std::alloc::Global;
 
 /// Reads all tokens of a source within limits, and keeps none.
 ///
-/// Returns the error that `Parser::new_within` returns for the source and `most`, or else what `Parser::end_at_nesting`
-/// returns for its tokens and `depth`: the span of the first token at which more than `depth` brackets are open, or None.
-/// Takes no memory but for the words of an error.
+/// Returns the error that `Parser::new_within` returns for the source and `most`, or else the span of the first token at
+/// which more than `depth` brackets are open, or None. A bracket is `(`, `[` or `{`. Takes no memory but for the words of
+/// an error.
 pub fn check_tokens(
     alloc: Global,
     source: &str,

@@ -16,7 +16,6 @@ ghost use Rattle.juniper_tokens.specs.device.Ranges.{InOrder, IsRange, range_lex
 ghost use Rattle.juniper_tokens.specs.Lexing.{passed, ahead};
 ghost use Rattle.juniper_tokens.specs.Spans.{view_span};
 ghost use Rattle.juniper_tokens.specs.Tokens.{token_kind, token_text, view_token, view_name};
-ghost use Rattle.juniper_tokens.specs.Nesting.{EndsAtNesting};
 ghost use Rattle.juniper_tokens.specs.Delimited.{IsRest};
 ghost use Rattle.juniper_tokens.specs.Taking.{left};
 ghost use Rattle.juniper_tokens.specs.Cursor.{Gives, RefusesEnd, OnMemory, Unmoved, EndsOnce, first_of, kind_at, is_wanted, next_at, refused_at, expect_at, expect_name_at, skip_at};
@@ -24,11 +23,10 @@ ghost use Rattle.juniper_tokens.specs.Cursor.{Gives, RefusesEnd, OnMemory, Unmov
 use crate::cursor::Cursor;
 use crate::error::{LexFailure, LimitedLexFailure, OptionParseResult, ParseFailure, ParseResult};
 use crate::lexer::Lexer;
-use crate::line::{Line, line_near};
+use crate::line::Line;
 use crate::line_table::{LineStarts, LineTable};
 use crate::lists::list_with_capacity;
-use crate::nesting::{end_after, first_deeper};
-use crate::span::{Span, Spanning};
+use crate::span::Spanning;
 use crate::text::same_text;
 use crate::token::Token;
 use crate::token_range::TokenRange;
@@ -154,26 +152,6 @@ impl<'a> Parser<'a> {
         ensures { (given : Allocator) → result ≡ given }
     {
         self.alloc
-    }
-
-    /// Ends the tokens after the first one at which more than `depth` brackets are open, and returns its span.
-    ///
-    /// A bracket is `(`, `[` or `{`. The end is then where that token ends. If there is no such token, returns None and
-    /// changes nothing.
-    pub fn end_at_nesting(&mut self, depth: usize) -> Option<Span>
-        ensures { EndsAtNesting depth self.old result self.new }
-    {
-        let last = self.taken + first_deeper(&self.ranges[self.taken..], depth)?;
-        let range = self.ranges[last];
-        let starts = self.lines.starts();
-        let line = line_near(
-            starts,
-            self.current.span.start.line(),
-            range.start.characters,
-        );
-        let span = range.span(self.source, starts, line);
-        end_after(&mut self.ranges, last, range.end);
-        Some(span)
     }
 
     /// A cursor over the tokens that are left. It makes a token's text and positions on request. The parser stays as it

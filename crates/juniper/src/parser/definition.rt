@@ -17,21 +17,21 @@ use crate::tree::ast::Definition;
 use crate::tree::trees::Trees;
 use graphql_grammar::OperationType;
 use juniper_tokens::{
-    Cursor, Feed, Kind, Listed, OptionParseResult, ParseFailure, ParseResult, SourcePosition,
-    SourceText, UnlocatedParseResult,
+    Cursor, Feed, Kind, OptionParseResult, ParseFailure, ParseResult, SourcePosition, SourceText,
+    Streamed, UnlocatedParseResult,
 };
 use juniper_values::ScalarValue;
 
 /// `Definition`, as juniper's tree.
 pub(crate) fn parse_definition_tree<'a, S: ScalarValue>(
-    tokens: &mut Cursor<'_, &'a str>,
+    tokens: &mut Cursor<'_, &'a str, Streamed>,
 ) -> UnlocatedParseResult<Definition<'a, S>>
     ensures gives { Gives (view_definition S.content) result (left tokens.new) (cursor (stated S.reading S.of_bool) definition (left tokens.old)) }
     ensures shorter { OnOk result (length (left tokens.new) < length (left tokens.old)) }
     ensures on { OnOk result (GoesOn tokens.old tokens.new) }
 {
-    let mut trees = Trees::<'a, Listed>::new(tokens.allocator());
-    parse_definition_or::<S, Trees<'a, Listed>, ParseFailure>(tokens, &mut trees)
+    let mut trees = Trees::<'a, Streamed>::new(tokens.allocator());
+    parse_definition_or::<S, Trees<'a, Streamed>, ParseFailure>(tokens, &mut trees)
 }
 
 /// `Definition`, with an error of any type that is made of a parser's.

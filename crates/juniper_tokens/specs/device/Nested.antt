@@ -1,9 +1,9 @@
--- A device: the first token that is nested too deep, by its number, and by what is counted up to it.
+-- A device: tokens that are nested too deep, and what is counted up to the first of them.
 use Rattle.std.specs.Prelude.{◌≡◌, ℕ, ◌<◌, List, length, pos, ◌≤ℤ◌, Option, Some, None}
 use Rattle.graphql_lexical.specs.Cutting.{Lexeme}
 use Rattle.graphql_lexical.specs.Nesting.{opened, closed, IsFirstDeeper}
 use Rattle.graphql_lexical.specs.Place.{place}
-use Rattle.graphql_lexical.specs.device.Indexed.{nesting_at, IsFirstDeeperAt}
+use Rattle.graphql_lexical.specs.device.Indexed.{nesting_at}
 use Rattle.juniper_tokens.specs.declared.check.Brackets.{Brackets}
 use Rattle.juniper_tokens.specs.declared.span.Span.{Span}
 use Rattle.juniper_tokens.specs.declared.token_range.TokenRange.{TokenRange}
@@ -14,11 +14,6 @@ use Rattle.juniper_tokens.specs.Spans.{view_span}
 -- no token's nesting exceeds depth
 abbrev pub IsShallowAt : ℕ → List Lexeme → Type 0
 IsShallowAt depth ts = (i : ℕ) → i < length ts → nesting_at ts i ≤ℤ pos depth
-
--- the number of the first token whose nesting exceeds depth, if there is one
-abbrev pub FindsDeeper : ℕ → List Lexeme → Option ℕ → Type 0
-FindsDeeper depth ts None = IsShallowAt depth ts
-FindsDeeper depth ts (Some i) = (t : Lexeme) × IsFirstDeeperAt depth ts i t
 
 -- the token of a range, at whose end the lexer stands
 abbrev pub IsOfRange : LexerState → TokenRange → Lexeme → Type 0

@@ -30,11 +30,12 @@ use std::alloc::Global;
 /// Parses a source as a document within limits, and has a builder build each of its parts as soon as it is read:
 /// `Document = Definition+ EndOfFile`
 ///
-/// Keeps no list of tokens: each is read when the one before it is taken. The result is that of `parse_document_source_limited` for the source, with what was built in place of the tree, and an
-/// error of any type `F` that is made of a `LimitFailure`. The builder's `Feed` is `Streamed`. After an error, or if
-/// memory runs out, some parts of a document may have been built. If the source isn't a document within the limits, it is
-/// lexed once more from its beginning, since a lexical error comes before any other. Takes no memory but what the builder
-/// takes and the words of an error, and stack in proportion to the nesting of the tokens.
+/// Keeps no list of tokens: each is read when the one before it is taken. The result is that of
+/// `parse_document_source_limited` for the source, with what was built in place of the tree, and an error of any type `F`
+/// that is made of a `LimitFailure`. The builder's `Feed` is `Streamed`. After an error, or if memory runs out, some parts
+/// of a document may have been built. If the source isn't a document within the limits, it is lexed once more from its
+/// beginning, since a lexical error comes before any other. Takes no memory but what the builder takes and the words of
+/// an error, and stack in proportion to the nesting of the tokens.
 ///
 /// ```
 /// // `Fields` is a type of the program's own that counts fields, and is a `Builder`

@@ -1,7 +1,6 @@
 //! Documents whose definitions are passed on one by one.
 ghost use Rattle.std.specs.Prelude.{◌<◌, ◌^◌, ◌∷◌, [], ℕ, List, IfOk, OnOk, OnErr};
 ghost use Rattle.std.specs.Str.{chars};
-ghost use Rattle.graphql_lexical.specs.Cutting.{Cut};
 ghost use Rattle.graphql_grammar.specs.Tree.{Definition as Seen};
 ghost use Rattle.juniper_tokens.specs.Errors.{view_fault};
 ghost use Rattle.juniper_tokens.specs.Spans.{view_span};
@@ -13,15 +12,15 @@ ghost use Rattle.juniper_tokens.specs.Taking.{left};
 ghost use Rattle.juniper.specs.device.Steps.{cursor};
 ghost use Rattle.juniper.specs.Within.{HasTooDeep, IsWithin};
 ghost use Rattle.juniper.specs.Limited.{HasFewTokens, HasTooManyTokens, IfDecidedLimited, IfParsed, IfRefusedLimited, IfTooDeepLimited, IfTooManyLimited};
-ghost use Rattle.juniper.specs.Sinks.{Gains, GainsTree, GainsFront, GainsBeforeEnd, GivesAs, GivesWithin};
+ghost use Rattle.juniper.specs.Sinks.{Gains, GainsTree, GainsFront, GainsBeforeEnd, GivesAs};
 ghost use Rattle.juniper.specs.Promise.{IsRefusal};
 
 use crate::parser::definition::parse_definition_tree;
-use crate::parser::document::depth::{DepthFailure, depth_failure};
+use crate::parser::document::depth::depth_failure;
 use crate::parser::document::limited::{LimitFailure, Limits};
 use crate::parser::next::next_is;
 use crate::tree::ast::Definition;
-use juniper_tokens::{Cursor, Kind, Lexer, Parser, UnlocatedParseResult};
+use juniper_tokens::{Cursor, Kind, Streamed, UnlocatedParseResult, check_tokens};
 use juniper_values::ScalarValue;
 use std::alloc::{AllocError, Global};
 
@@ -43,9 +42,9 @@ pub trait DefinitionSink<S: ScalarValue> {
 ///
 /// The result is that of `parse_document_source_limited`, and if that is a tree, its definitions have been passed in
 /// order. Whatever the result, the definitions passed are definitions at the beginning of the source, in order, also
-/// before an error or if memory runs out. If the source has a lexical error, none were passed. Takes stack for a
-/// nesting of `limits.depth` at most; if memory runs out, in the parser or in the sink, returns `LimitFailure::Parse`
-/// with `ParseFailure::Memory`.
+/// before an error or if memory runs out. If the source has a lexical error, none were passed: it is lexed once before
+/// it is parsed, and no list of tokens is held. Takes stack for a nesting of `limits.depth` at most; if memory runs out,
+/// in the parser or in the sink, returns `LimitFailure::Parse` with `ParseFailure::Memory`.
 ///
 /// ```
 /// // `Fields` is a type of the program's own that counts fields, and is a `DefinitionSink`
@@ -69,30 +68,17 @@ pub fn parse_document_source_into<S: ScalarValue, D: DefinitionSink<S>>(
     ensures limited { IfTooManyLimited result (λ _. limits.tokens < 2 ^ 63) }
     ensures given { GainsFront D.holds definitions.old definitions.new (stated S.reading S.of_bool) (chars s.now) }
 {
-    let mut lexer = Lexer::new(alloc, s);
-    let mut parser = Parser::new_within(&mut lexer, limits.tokens)?;
-    Ok(give_within(&mut parser, limits.depth, definitions)?)
-}
-
-// Gives the definitions of the tokens of a source.
-fn give_within<S: ScalarValue, D: DefinitionSink<S>>(
-    parser: &mut Parser<'_>,
-    depth: usize,
-    definitions: &mut D,
-) -> Result<(), DepthFailure>
-    ensures answer { (source : List ℕ) → Cut source parser.old → GivesWithin D.holds definitions.old definitions.new (stated S.reading S.of_bool) depth source result }
-    ensures given { (source : List ℕ) → Cut source parser.old → GainsFront D.holds definitions.old definitions.new (stated S.reading S.of_bool) source }
-{
-    let deep = parser.end_at_nesting(depth);
-    match give_definitions(&mut parser.cursor(), definitions) {
+    let deep = check_tokens(alloc, s, limits.depth, limits.tokens)?;
+    let mut tokens = Cursor::<&str, Streamed>::of_source(alloc, &s, limits.depth, limits.tokens);
+    match give_definitions(&mut tokens, definitions) {
         Ok(()) => Ok(()),
-        Err(failure) => Err(depth_failure(deep, failure)),
+        Err(failure) => Err(LimitFailure::from(depth_failure(deep, failure))),
     }
 }
 
 /// `Definition+`, up to the end, which is left there.
 fn give_definitions<S: ScalarValue, D: DefinitionSink<S>>(
-    tokens: &mut Cursor<'_, &str>,
+    tokens: &mut Cursor<'_, &str, Streamed>,
     definitions: &mut D,
 ) -> UnlocatedParseResult<()>
     ensures answer { GivesAs D.holds definitions.old definitions.new result (cursor (stated S.reading S.of_bool) document (left tokens.old)) }

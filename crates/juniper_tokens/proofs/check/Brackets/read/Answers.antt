@@ -1,8 +1,7 @@
 use Rattle.std.proofs.Common.{◌≤◌, ◌<◌, ap, ap₂, arith, subst, sym, ◌∙◌}
 use Rattle.graphql_lexical.specs.Nesting.{is_opening, is_closing}
 use Rattle.graphql_lexical.specs.Place.{Place}
-use Rattle.juniper_tokens.proofs.BracketCounts.{still_deep, before_within, none_deeper, found_deeper}
-use Rattle.juniper_tokens.proofs.DeepRanges.{one_counted, none_counted}
+use Rattle.juniper_tokens.proofs.BracketCounts.{one_counted, none_counted, still_deep, before_within, none_deeper, found_deeper}
 use Rattle.juniper_tokens.proofs.check.Brackets.read.Goals as goal
 
 pub returns-then-is_some-clause-nested : goal.returns-then-is_some-clause-nested
