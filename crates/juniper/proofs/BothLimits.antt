@@ -117,7 +117,7 @@ module _ {C : Type 0} (S : Scalars C Error) (depth most : ℕ) (source : List �
     fails_limited (limited.TooMany span) p = (p.too_many, p.limited)
 
     -- what is promised by outcome, of what a failure says
-    err_limited : (e : LimitFailure) → FailsLimited S depth most source e → ReturnsLimited S depth most source view (Err e)
+    pub err_limited : (e : LimitFailure) → FailsLimited S depth most source e → ReturnsLimited S depth most source view (Err e)
     err_limited (limited.Parse (failure.Refused fault)) p = record {
       accepted = tt;
       refused = p.0;

@@ -43,10 +43,10 @@ returns-in-Ok g c =
     let source = chars c.args.s.now in
     let first = left c.of_source-tokens.result in
     let checked = c.in_ok-deep in
-    let ended = checked_ends limits.depth limits.tokens source first c.of_source-tokens.ensures.nested checked.field-0
+    let ended = checked_ends limits.depth limits.tokens source first c.of_source-tokens.ensures.nested checked.deep
     checked.ensures.nested in
     let given = c.in-Ok.ensures in
-    let tree = tree_of S limits.depth source first checked.field-0 ended given.answer.0 given.answer.1 given.answer.2 in
+    let tree = tree_of S limits.depth source first checked.deep ended given.answer.0 given.answer.1 given.answer.2 in
     record {
       accepted = record { tree = given.answer.0; has_tree = tree.0; gains = given.answer.3 };
       refused = tt;
@@ -55,7 +55,7 @@ returns-in-Ok g c =
       few = checked.ensures.few;
       too_many = tt;
       limited = tt;
-      given = given_of_text g.D.DefinitionSink.holds S limits.depth source ended.0 first checked.field-0 ended.1 ended.2
+      given = given_of_text g.D.DefinitionSink.holds S limits.depth source ended.0 first checked.deep ended.1 ended.2
           given.given;
     }
 
@@ -67,7 +67,7 @@ returns-in-Err g c =
     let view : Unit {0} → List (Definition Content) = λ x. [] in
     let first = left c.of_source-tokens.result in
     let checked = c.in_ok-deep in
-    let deep = checked.field-0 in
+    let deep = checked.deep in
     let nested = c.of_source-tokens.ensures.nested in
     let ended = checked_ends limits.depth limits.tokens source first nested deep checked.ensures.nested in
     let failed = c.in-Err in
