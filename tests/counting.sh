@@ -47,17 +47,23 @@ add_numbers() {
     ! grep -qE ': runtime error: |==ERROR: [A-Za-z]+Sanitizer: ' "$1" || fails "$3: a sanitizer reported something"
 }
 
+# shown_skips FILE: the lines of it that say what was skipped.
+shown_skips() {
+    grep -E '^([a-z_.]+: )?skipped: |^ *--- SKIP|^ +[a-z_]+_test\.go:[0-9]+: |^ok .* # SKIP' "$1" || true
+}
+
 # counted COMMAND ..: runs it, adds the numbers of its last line, and sets $status to its exit status. What it wrote is shown
-# if something failed.
+# if something failed, and else what it skipped.
 counted() {
     local failed_before=$failed
     "$@" > "$folder/output" 2>&1
     status=$?
     add_numbers "$folder/output" "$status" "$*"
-    [ "$failed" = "$failed_before" ] || cat "$folder/output"
+    if [ "$failed" = "$failed_before" ]; then shown_skips "$folder/output"; else cat "$folder/output"; fi
 }
 
-# tested NAME PASSED FAILED COMMAND ..: runs it, and counts the lines of each pattern, without those of tests that were skipped.
+# tested NAME PASSED FAILED COMMAND ..: runs it, and counts the lines of each pattern, without those of tests that were skipped,
+# which it shows.
 # If the command fails, that is reported; so is a run without a line of the first pattern, if there is a pattern.
 SKIPPED='^ *--- SKIP|^test .*\.\.\. ignored|^ok .* # (SKIP|TODO)'
 tested() {
@@ -70,6 +76,7 @@ tested() {
     [ -n "$good" ] || good_count=$((status == 0))
     passed=$((passed + good_count))
     skipped=$((skipped + $(grep -cE "$SKIPPED" "$folder/output")))
+    shown_skips "$folder/output"
     if [ "$status" != 0 ] || [ "$bad_count" != 0 ] || [ "$good_count" = 0 ]; then
         cat "$folder/output"
         fails "$name, status $status, $good_count of its parts passed, $bad_count failed"
