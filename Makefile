@@ -1,8 +1,8 @@
 # Short names for the commands of CONTRIBUTING.md, which says when each is run and how long it takes. `make` lists them. NAME is
-# a crate, FUNCTION the path of a function, WORD a part of one, PREFIX and FOLDER are folders: `make check NAME=juniper`.
+# a crate, FUNCTION the path of a function, WORD a part of one, PREFIX and FOLDER are folders, COUNT is a number: `make check NAME=juniper`.
 
 .DEFAULT_GOAL := help
-.PHONY: help prove check check-one try format must-fail plant rows refusals growth figures library wrong-bodies install release \
+.PHONY: help prove check check-one try format must-fail plant rows refusals growth figures library wrong-bodies install wasm page release \
     check-release version instructions speed habits style fix graphql-core graphql-js gate
 
 help: # list these names
@@ -49,6 +49,13 @@ wrong-bodies: # see that the tests of the packages refuse wrong bodies
 
 install: # install the library and the programs below PREFIX
 	./c-library --install $(PREFIX)
+
+wasm: # test the WebAssembly module, with COUNT made documents
+	tests/check_wasm $(COUNT)
+
+page: # build the page to try the parser on, in FOLDER
+	./c-library --target wasm32
+	scripts/wasm/bundle.js page $(FOLDER) out/wasm32/firthnapkin.wasm
 
 release: # make the files of a release
 	./prove

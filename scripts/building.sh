@@ -60,9 +60,12 @@ sums_of() {
     (cd "$root" && sources_of "$@" | xargs -0 sha256sum 2>&1)
 }
 
-# archive_for [PROCESSOR]: the proved archive of the library for C, which ./c-library links, for another processor than x86-64.
+# archive_for [PROCESSOR]: the proved archive of the library for C, which ./c-library links, for another processor than x86-64. For
+# wasm32 it is LLVM's module of that archive, which ./c-library translates.
 archive_for() {
-    echo "$root/crates/juniper_c/out/${1:+$1/}libjuniper_c.a"
+    local file=libjuniper_c.a
+    [ "${1-}" != wasm32 ] || file=module.bc
+    echo "$root/crates/juniper_c/out/${1:+$1/}$file"
 }
 
 # is_current NAME [PRODUCT]: whether what a proof of this crate built is there, as it was built, and of the sources that are there
@@ -97,9 +100,19 @@ keep_list() {
 # sums_of_link [PROCESSOR]: the sums of what ./c-library links, of what says how, and of what it made, for x86-64 if none is named.
 # False if one is missing.
 sums_of_link() {
-    local inside=out/${1:+$1/} sources=(c-library)
-    [ $# = 0 ] || sources+=(scripts/heap.c)
-    (cd "$root" && sha256sum "crates/juniper_c/${inside}libjuniper_c.a" "${sources[@]}" "$inside"libfirthnapkin.{a,so.0,so} 2> /dev/null)
+    local inside=out/${1:+$1/} proved sources=(c-library) made
+    proved=$(archive_for "$@")
+    made=("$inside"libfirthnapkin.{a,so.0,so})
+    case ${1-} in
+        '') ;;
+        wasm32)
+            sources+=(include/firthnapkin.h bindings/{check,kept,sizes,whole}.h)
+            sources+=(scripts/wasm/{build,retarget.py,{calls,memory,words}.c,memory.h,include/{one_stack,stddef,stdint,stdio,stdlib,string}.h})
+            made=("$inside"firthnapkin.wasm)
+            ;;
+        *) sources+=(scripts/heap.c) ;;
+    esac
+    (cd "$root" && sha256sum "${proved#"$root/"}" "${sources[@]}" "${made[@]}" 2> /dev/null)
 }
 
 # is_linked [PROCESSOR]: whether the library for C is there as ./c-library linked it.

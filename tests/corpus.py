@@ -1,7 +1,7 @@
 #!/usr/bin/env python3
 """Makes the texts that the packages are compared on: those of the rows, the shapes of scripts/growth, made ones, and large ones.
 
-    tests/corpus.py    writes them: for each the number of its bytes in a line, and its UTF-8 in the next
+    tests/corpus.py [COUNT]    writes them: for each the number of its bytes in a line, and its UTF-8 in the next. COUNT documents are made
 
 Made texts are the same in each run. Of each document that the grammar gives, one other text is made, with a few characters or
 tokens left out, doubled or replaced.
@@ -193,8 +193,8 @@ def of_rows() -> Iterator[str]:
                 pass
 
 
-def made() -> Iterator[str]:
-    for number in range(MADE):
+def made(count: int = MADE) -> Iterator[str]:
+    for number in range(count):
         writer = Writer(number)
         yield writer.document()
         yield writer.broken()
@@ -232,9 +232,9 @@ SCHEMAS = [
 BEYOND = re.compile(r"[0-9][eE]\+?[0-9]{4}|[0-9]{309}")
 
 
-def texts() -> List[str]:
+def texts(count: int = MADE) -> List[str]:
     shapes = [shape(size) for shape in growth_rows.TEXTS.values() for size in SHAPES]
-    every = dict.fromkeys([*of_rows(), *SCHEMAS, *shapes, *made(), *large()])
+    every = dict.fromkeys([*of_rows(), *SCHEMAS, *shapes, *made(count), *large()])
     return [text for text in every if not BEYOND.search(text)]
 
 
@@ -245,7 +245,7 @@ def written(text: str) -> bytes:
 
 
 def main() -> None:
-    for text in texts():
+    for text in texts(*map(int, sys.argv[1:2])):
         sys.stdout.buffer.write(written(text))
 
 

@@ -17,6 +17,7 @@
  *     parsePacked(source, limits)         what a parse found, as a string; undefined if it found no document, or much
  *     isDocument(source, limits)          whether a source is a document within limits; false if it is large, too */
 #define _GNU_SOURCE
+#include "kept.h"
 #include "whole.h"
 
 #include <node_api.h>
@@ -170,21 +171,7 @@ static napi_value excerpt(napi_env env, napi_callback_info info) {
     return result_of(env, &w, NULL, 0, a.allocate);
 }
 
-/* What is kept for small sources, by each thread that loads the addon: the source as UTF-8, and what a call finds. */
-enum { KEPT_SOURCE = 1 << 14, KEPT_NODES = 1 << 10, KEPT_OPERATIONS = 1 << 6 };
-typedef struct {
-    firthnapkin_node nodes[KEPT_NODES];
-    /* Room for the complexities, the texts and the counts after all nodes. */
-    uint8_t after[KEPT_OPERATIONS * sizeof(firthnapkin_complexity) + KEPT_SOURCE + 32];
-    firthnapkin_complexity complexities[KEPT_OPERATIONS];
-    uint8_t texts[KEPT_SOURCE], source[KEPT_SOURCE];
-} kept;
-
-/* What comes last of a packed result. */
-typedef struct {
-    uint32_t nodes, operations, texts, source; /* the nodes and operations, and the bytes of texts and of the source */
-} packed_counts;
-
+/* What is kept for small sources, by each thread that loads the addon. */
 static void drop_kept(napi_env env, void *data, void *hint) {
     (void)env, (void)hint;
     free(data);
@@ -204,47 +191,13 @@ static kept *kept_with(napi_env env, napi_callback_info info, size_t *length, pa
     return k;
 }
 
-/* Whether a string of this length in `source` isn't cut off: another character, of up to four bytes, and the byte 0 at the end would
- * have fit. */
-static int is_whole(size_t length) {
-    return length + sizeof(uint32_t) < KEPT_SOURCE;
-}
-
-/* Moves so many bytes to a place before which the result is; the place after them. */
-static uint8_t *put(uint8_t *at, const void *from, size_t size) {
-    memmove(at, from, size);
-    return at + size;
-}
-
-/* Puts the complexities after the nodes, the texts after these and the counts last, at a multiple of four bytes; how many bytes the
- * result has. */
-static size_t pack(kept *k, const packed_counts *counts) {
-    uint8_t *begin = (uint8_t *)k->nodes, *at = begin + counts->nodes * sizeof *k->nodes;
-    at = put(at, k->complexities, counts->operations * sizeof *k->complexities);
-    at = put(at, k->texts, counts->texts);
-    at = put(at, "\0\0\0", -counts->texts % sizeof(uint32_t));
-    return (size_t)(put(at, counts, sizeof *counts) - begin);
-}
-
-/* Parses the source that was read, of so many bytes; the size of the packed result, and 0 if there is none. */
-static size_t parse_kept(kept *k, size_t length, const package_limits *limits) {
-    size_t nodes, texts, operations = 0;
-    firthnapkin_error error;
-    uint32_t status = has_limit(&limits->sizes)
-        ? parse_complexities_on_stack(k->source, length, &limits->call, k->nodes, KEPT_NODES, &nodes, k->texts, KEPT_SOURCE, &texts,
-                                      k->complexities, KEPT_OPERATIONS, &operations, &error)
-        : parse_on_stack(k->source, length, &limits->call, k->nodes, KEPT_NODES, &nodes, k->texts, KEPT_SOURCE, &texts, &error);
-    if (status != FIRTHNAPKIN_OK || first_beyond(k->complexities, operations, &limits->sizes).operation < operations) return 0;
-    return pack(k, &(packed_counts){(uint32_t)nodes, (uint32_t)operations, (uint32_t)texts, (uint32_t)length});
-}
-
 static napi_value parse_packed(napi_env env, napi_callback_info info) {
     package_limits limits;
     size_t length, size;
     napi_value result;
     kept *k = kept_with(env, info, &length, &limits);
     if (k == NULL) return failed(env, "parsePacked takes a string and limits");
-    size = is_whole(length) ? parse_kept(k, length, &limits) : 0;
+    size = parse_kept(k, length, &limits.call, &limits.sizes);
     if (size == 0) return NULL;
     if (napi_create_string_utf16(env, (const char16_t *)k->nodes, size / sizeof(char16_t), &result) != napi_ok)
         return failed(env, "the result was not made");
@@ -257,7 +210,7 @@ static napi_value is_document(napi_env env, napi_callback_info info) {
     napi_value result;
     kept *k = kept_with(env, info, &length, &limits);
     if (k == NULL) return failed(env, "isDocument takes a string and limits");
-    bool found = is_whole(length) && check_source(k->source, length, &limits.call, &limits.sizes).status == FIRTHNAPKIN_OK;
+    bool found = is_kept_document(k, length, &limits.call, &limits.sizes);
     return napi_get_boolean(env, found, &result) == napi_ok ? result : failed(env, "the result was not made");
 }
 

@@ -1,6 +1,9 @@
 // Builds the addon with a C compiler, over the archive and the headers that Node comes with, and writes lib/limits.d.ts. A release has
 // both, and the archive: if this Node loads the addon, nothing is left to do. In the repository ./c-library builds the archive.
 //
+// Where there is no addon, the package uses its WebAssembly module. In the repository ./c-library --target wasm32 builds the module,
+// which is copied here, and an ES module is made for browsers.
+//
 //     node build.js [PROCESSOR]    for another processor, which $CC compiles for: x64 or arm64
 "use strict";
 
@@ -18,10 +21,22 @@ const root = path.join(__dirname, "..", "..");
 const library = path.join(isRelease ? inside : path.join(root, "out"), folder, "libfirthnapkin.a");
 const headers = path.join(path.dirname(fs.realpathSync(process.execPath)), "..", "include", "node");
 const output = path.join(__dirname, nameFor(processor));
+const module32 = path.join(root, "out", "wasm32", "firthnapkin.wasm");
+const [copied, forBrowsers] = ["firthnapkin.wasm", "firthnapkin.mjs"].map((name) => path.join(__dirname, name));
 
+// A release goes on with its WebAssembly module, if it has one.
 function fail(words) {
-  console.error(`firthnapkin${words}`);
-  process.exit(1);
+  const goesOn = isRelease && fs.existsSync(copied);
+  console.error(`firthnapkin${words}${goesOn ? ". The WebAssembly module is used" : ""}`);
+  process.exit(goesOn ? 0 : 1);
+}
+
+// Copies the module that is built; one of before isn't left.
+function takeModule() {
+  for (const file of [copied, forBrowsers]) fs.rmSync(file, { force: true });
+  if (!fs.existsSync(module32)) return;
+  fs.copyFileSync(module32, copied);
+  execFileSync(process.execPath, [path.join(root, "scripts", "wasm", "bundle.js"), "module", forBrowsers]);
 }
 
 // Whether a version of glibc is 2.17 or later.
@@ -36,7 +51,7 @@ function checkMachine() {
   const isKnown = ["x64", "x86_64", "arm64", "aarch64"].includes(machine);
   if (process.platform !== "linux" || !isKnown || !glibc || !suffices(glibc)) {
     const found = `${os.type()} on ${machine} with ${glibc ? `glibc ${glibc}` : "a C library that is not glibc"}`;
-    fail(` is for Linux on x86-64 or aarch64 with glibc 2.17 or later, and this machine is ${found}`);
+    fail(`'s addon is for Linux on x86-64 or aarch64 with glibc 2.17 or later, and this machine is ${found}`);
   }
 }
 
@@ -58,9 +73,14 @@ function build() {
   }
   const folders = isRelease ? [inside, headers] : [path.join(root, "include"), path.join(root, "bindings"), headers];
   const words = ["-O2", "-Wall", "-Wextra", "-fPIC", "-shared", "-pthread", ...folders.map((folder) => `-I${folder}`)];
-  execFileSync(process.env.CC || "cc", [...words, "-o", output, path.join(__dirname, "addon.c"), library], { stdio: "inherit" });
+  try {
+    execFileSync(process.env.CC || "cc", [...words, "-o", output, path.join(__dirname, "addon.c"), library], { stdio: "inherit" });
+  } catch (error) {
+    fail(`: the addon is not built: ${error.message.split("\n")[0]}`);
+  }
   if (processor === process.arch) fs.writeFileSync(path.join(__dirname, "lib", "limits.d.ts"), require("./lib/limits").declaration());
 }
 
+if (!isRelease) takeModule();
 checkMachine();
 if (!isRelease || !isBuilt()) build();

@@ -59,8 +59,10 @@ class Arrays {
 // What is in a source that is a document within limits; otherwise an error is thrown. The name is the source's, or null.
 function foundIn(source, name, limits) {
   requireWellFormed(source, name);
-  const units = addon.parsePacked(source, limits);
-  if (units !== undefined) return new Packed(units);
+  const units = addon.parsePacked(source, limits, allocate);
+  if (typeof units === "string") return new Packed(units);
+  // The WebAssembly module also returns what a parse found otherwise.
+  if (units !== undefined) return new Arrays(checked(source, name, units), units.sourceBytes);
   const bytes = encoded(source);
   return new Arrays(checked(source, name, addon.parse(bytes, limits, allocate)), bytes.length);
 }

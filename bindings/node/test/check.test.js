@@ -153,7 +153,8 @@ const LITTLE = `
   console.log(JSON.stringify(results));
 `;
 
-test("a check takes no memory for nodes", { skip: hasLimits ? false : "no prlimit, so memory is not limited" }, () => {
+// A module's memory is reserved when it is loaded, so that a limit on the process limits no call.
+if (process.env.FIRTHNAPKIN_WASM !== "1") test("a check takes no memory for nodes", { skip: hasLimits ? false : "no prlimit, so memory is not limited" }, () => {
   assert.deepStrictEqual(JSON.parse(execFileSync(process.execPath, ["-e", LITTLE], { encoding: "utf8" })), [
     "undefined", "undefined", "Too many fields in an operation without a name: 4194304, with a limit of 5. At 1:1",
     'Unexpected ")". At 1:8388611', "memory ran out",

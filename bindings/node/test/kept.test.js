@@ -9,7 +9,7 @@ const { Worker } = require("worker_threads");
 
 const { addon } = require("../lib/addon");
 const { parse, FirthnapkinError } = require("..");
-const { limitsOf } = require("../lib/calls");
+const { allocate, limitsOf } = require("../lib/calls");
 
 const MAIN = JSON.stringify(path.join(__dirname, ".."));
 
@@ -17,7 +17,7 @@ const MAIN = JSON.stringify(path.join(__dirname, ".."));
 const [MOST_BYTES, MOST_NODES, MOST_OPERATIONS] = [(1 << 14) - 5, 1 << 10, 1 << 6];
 
 function isPacked(source, options = {}) {
-  return addon.parsePacked(source, limitsOf(options)) !== undefined;
+  return typeof addon.parsePacked(source, limitsOf(options), allocate) === "string";
 }
 
 /** All that a document has, and what its nodes have. */
@@ -215,7 +215,7 @@ test("what documents that are kept take, as the README says", () => {
 
 test("what a small document takes", () => {
   // Each node 64 bytes, each operation 24 if there is a limit, the texts up to a multiple of four, and four counts.
-  const taken = (source, options) => 2 * addon.parsePacked(source, limitsOf(options)).length;
+  const taken = (source, options) => 2 * addon.parsePacked(source, limitsOf(options), allocate).length;
   for (const [source, nodes, operations, texts] of [["{a}", 2, 1, 0], ["query ($a: Int) { b } { c }", 7, 2, 4], ['{a(b:"cdefg")}', 5, 1, 8]]) {
     assert.strictEqual(taken(source, {}), 64 * nodes + texts + 16);
     assert.strictEqual(taken(source, { maxFields: 9 }), 64 * nodes + 24 * operations + texts + 16);

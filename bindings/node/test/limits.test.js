@@ -57,7 +57,9 @@ test("the number of tokens alone", () => {
 
 test("what is before a schema's definition is parsed within the loosest limits", () => {
   const run = () => parse("{a} type", { depth: 5, maxTokens: 9 });
-  for (const [name, depth, most] of [["parsePacked", 5, 9], ["parse", 5, 9], ["check", 1000, LARGEST_WORD]]) {
+  // The WebAssembly module's first call has the error, too.
+  const again = process.env.FIRTHNAPKIN_WASM === "1" ? [] : [["parse", 5, 9]];
+  for (const [name, depth, most] of [["parsePacked", 5, 9], ...again, ["check", 1000, LARGEST_WORD]]) {
     const found = given(name, run).map((words) => Array.from(words[1]));
     assert.deepStrictEqual(found, [[depth, most, 0, 0, 0, 0, 0, 0, ...NO_SIZES]], name);
   }

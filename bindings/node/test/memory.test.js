@@ -87,8 +87,11 @@ const LITTLE = `${LIMITED}
 `;
 
 const hasLimits = process.platform === "linux" && spawnSync("prlimit", ["--version"]).status === 0;
+// The tests of the addon alone aren't those of the WebAssembly module, which wasm.test.js has: a module's memory is reserved when it is
+// loaded, so that a limit on the process limits no call, and what its calls take is what lib/calls.js passes.
+const isAddon = process.env.FIRTHNAPKIN_WASM !== "1";
 
-test("a process with little memory", { skip: hasLimits ? false : "no prlimit, so memory is not limited" }, () => {
+if (isAddon) test("a process with little memory", { skip: hasLimits ? false : "no prlimit, so memory is not limited" }, () => {
   const wanted = [
     "Error: memory ran out", "FirthnapkinError: Too many fields in an operation without a name: 131072, with a limit of 131071. At 1:1",
     'FirthnapkinError: Unexpected ")". At 1:393217', "fields: 262144", "nodes: 262144", "within: 131072",
@@ -114,10 +117,13 @@ test("memory that JavaScript can't allocate", () => {
     console.log(JSON.stringify(results), parse("{ a }").length);
   `;
   const lines = written(program).trim();
-  assert.strictEqual(lines, `${JSON.stringify(new Array(15).fill("Error: memory ran out"))} 2`);
+  const wanted = new Array(15).fill("Error: memory ran out");
+  // The module reads a small source without a buffer of it, and so has its error.
+  if (!isAddon) wanted.splice(6, 2, 'FirthnapkinError: Unexpected ")". At 1:3', 'FirthnapkinError: Unknown character "\u{1d11e}". At 1:3');
+  assert.strictEqual(lines, `${JSON.stringify(wanted)} 2`);
 });
 
-test("the addon takes no other arguments", () => {
+if (isAddon) test("the addon takes no other arguments", () => {
   const { addon } = require("../lib/addon");
   const allocate = (size) => new ArrayBuffer(size);
   const source = Buffer.from("{ a }");

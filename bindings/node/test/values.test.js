@@ -102,6 +102,7 @@ const DEEP = `
   }
 `;
 
-test("values nested a thousand deep", () => {
+// The WebAssembly module runs on this stack, and its parse needs more: wasm.test.js has such values on a stack of usual size.
+if (process.env.FIRTHNAPKIN_WASM !== "1") test("values nested a thousand deep", () => {
   assert.strictEqual(execFileSync(process.execPath, ["--stack-size=60", "-e", DEEP], { encoding: "utf8" }), "998\n998\n");
 });

@@ -1,0 +1,240 @@
+#!/usr/bin/env node
+// Tests the page of docs/playground and the ES module in a headless Chromium: what they show and return is compared with the package
+// over Node's addon. The last line is 'N passed, M failed'.
+//
+//     node tests/wasm/page.js CHROMIUM MODULE    the program, and firthnapkin.wasm
+"use strict";
+
+const { execFileSync } = require("child_process");
+const fs = require("fs");
+const http = require("http");
+const os = require("os");
+const path = require("path");
+const { pathToFileURL } = require("url");
+const { Browser } = require("./chromium");
+
+const ROOT = path.join(__dirname, "..", "..");
+const firthnapkin = require(path.join(ROOT, "bindings", "node"));
+const [program, wasm] = process.argv.slice(2);
+let [passed, failed] = [0, 0];
+
+function expect(what, found, wanted) {
+  const [a, b] = [found, wanted].map((value) => JSON.stringify(value));
+  if (a === b) {
+    passed++;
+  } else {
+    failed++;
+    console.log(`FAILED ${what}: ${a}, not ${b}`);
+  }
+}
+
+function bundle(...words) {
+  execFileSync(process.execPath, [path.join(ROOT, "scripts", "wasm", "bundle.js"), ...words]);
+}
+
+const errorOf = (run) => {
+  try {
+    run();
+    return null;
+  } catch (error) {
+    return error;
+  }
+};
+
+const REQUEST = `query Q($v: [T!]! = [1, "é"] @d) { k: a(x: "𝄞\\n", y: {b: 1.5, c: E, d: $v, e: 99999999999}) @d { ...F } ... on T { b(n: null) } }
+fragment F on T { b @d(z: """
+ é
+""") ... @d { c: d(l: [true, null, -7]) } }`;
+const ERRORS = ["{ user(id: 4 { name } }", "{\n  𝄞 }", "query { a(b: \"\\q\") }", '{ a(b: "é𝄞") ? }', "{".repeat(300), "type T { a: Int }", ""];
+
+// What the page shows.
+const SHOWN = {
+  nodes: `[...document.querySelectorAll("#panel li > span")].map((it) => it.textContent)`,
+  depths: `[...document.querySelectorAll("#panel li > span")].map((it) => { let depth = 0; for (let at = it.closest("ul"); at.parentElement.closest("ul"); at = at.parentElement.closest("ul")) depth++; return depth; })`,
+  cells: `[...document.querySelectorAll("#panel tbody tr")].map((row) => [...row.children].map((it) => it.textContent))`,
+  panel: `document.querySelector("#panel").textContent`,
+  status: `document.querySelector("#status").textContent`,
+  excerpt: `(({ hidden, textContent }) => hidden ? null : textContent)(document.querySelector("#excerpt"))`,
+  marked: `document.querySelector("#backdrop mark.bad")?.textContent ?? null`,
+  invalid: `document.querySelector("#source").getAttribute("aria-invalid")`,
+  focus: `document.activeElement.id`,
+  selected: `[...document.querySelectorAll('[role="tab"]')].filter((it) => it.ariaSelected === "true").map((it) => it.id)`,
+};
+
+const shown = (page, ...names) => Promise.all(names.map((name) => page.evaluate(SHOWN[name])));
+
+function rowOf(node) {
+  const words = [node.kind];
+  if (node.name !== null) words.push(node.name);
+  const isText = ["string", "blockString"].includes(node.kind);
+  if (["int", "largeInt", "float", "boolean", "null", "type"].includes(node.kind) || isText)
+    words.push(isText ? JSON.stringify(node.value) : String(node.value));
+  return words.join(" ");
+}
+
+function depthOf(node) {
+  let depth = 0;
+  for (let at = node.parent; at !== null; at = at.parent) depth++;
+  return depth;
+}
+
+async function choose(page, name) {
+  await page.evaluate(`document.querySelector("#tab-${name}").click()`);
+}
+
+async function testRequest(page) {
+  await page.evaluate(`document.querySelector("#source").focus()`);
+  await page.type(REQUEST);
+  const document = firthnapkin.parse(REQUEST);
+  await choose(page, "nodes");
+  const [nodes, depths, status, excerpt, marked, invalid] = await shown(page, "nodes", "depths", "status", "excerpt", "marked", "invalid");
+  expect("nodes", nodes, [...document].map(rowOf));
+  expect("how nodes are nested", depths, [...document].map(depthOf));
+  expect("the status", [status, excerpt, marked, invalid], [`A document with ${document.length} nodes`, null, null, "false"]);
+  await choose(page, "tokens");
+  expect("tokens", (await shown(page, "cells"))[0], [...firthnapkin.tokens(REQUEST)].map((it) => [`${it.line}:${it.column}`, it.kind, it.text]));
+  await choose(page, "canonical");
+  expect("the canonical text", (await shown(page, "panel"))[0], firthnapkin.canonical(REQUEST));
+  await choose(page, "complexity");
+  expect("complexities", (await shown(page, "cells"))[0], document.operations.map((it) => [
+    `${it.kind} ${it.name}`, ...["fields", "aliases", "directives", "rootFields", "depth"].map((name) => String(it.complexity[name])),
+  ]));
+  await choose(page, "nodes");
+}
+
+async function testErrors(page) {
+  await page.evaluate(`document.querySelector("#source").focus()`);
+  for (const source of ERRORS) {
+    await page.type(source);
+    const error = errorOf(() => firthnapkin.parse(source));
+    const marked = source.slice(error.start.index, error.end.index) || " ";
+    expect(`the error of ${source.slice(0, 30)}`, await shown(page, "status", "excerpt", "marked", "invalid", "panel"), [
+      error.message, error.excerpt, marked, "true", `Nothing to show. ${error.message}`,
+    ]);
+  }
+  const unknown = "{ a { ...Missing } }";
+  await page.type(unknown);
+  const document = firthnapkin.parse(unknown);
+  const error = errorOf(() => document.operations[0].complexity);
+  expect("an unknown fragment", await shown(page, "status", "excerpt", "nodes"), [
+    `A document with ${document.length} nodes. ${error.message}`, error.excerpt, [...document].map(rowOf),
+  ]);
+}
+
+async function testExamples(page) {
+  const count = await page.evaluate(`document.querySelectorAll("#examples button").length`);
+  expect("that there are examples", count >= 3, true);
+  for (let i = 0; i < count; i++) {
+    await page.evaluate(`document.querySelectorAll("#examples button")[${i}].click()`);
+    const source = await page.evaluate(`document.querySelector("#source").value`);
+    const error = errorOf(() => firthnapkin.parse(source).operations.forEach((it) => it.complexity));
+    const [status, excerpt] = await shown(page, "status", "excerpt");
+    expect(`example ${i}`, [status.endsWith(error ? error.message : " nodes"), excerpt], [true, error ? error.excerpt : null]);
+  }
+}
+
+// The tabs by the keyboard alone, from the source on.
+async function testKeyboard(page) {
+  await page.evaluate(`document.querySelector("#source").focus()`);
+  await page.type("{ a }");
+  const count = await page.evaluate(`document.querySelectorAll("#examples button").length`);
+  for (let i = 0; i < count + 1; i++) await page.press("Tab");
+  expect("the key Tab", await shown(page, "focus"), ["tab-nodes"]);
+  for (const [key, name] of [
+    ["ArrowRight", "tokens"], ["ArrowRight", "canonical"], ["ArrowLeft", "tokens"], ["End", "complexity"], ["ArrowRight", "nodes"],
+    ["ArrowLeft", "complexity"], ["Home", "nodes"],
+  ]) {
+    await page.press(key);
+    expect(`the key ${key}`, await shown(page, "focus", "selected"), [`tab-${name}`, [`tab-${name}`]]);
+  }
+  await page.press("Tab");
+  expect("the panel's focus", await shown(page, "focus"), ["panel"]);
+}
+
+// What a screen reader is told: roles with their names.
+async function testNames(page) {
+  await page.send("Accessibility.enable");
+  const { nodes } = await page.send("Accessibility.getFullAXTree");
+  const found = nodes.filter((node) => !node.ignored).map((node) => `${node.role?.value} ${node.name?.value ?? ""}`.trim());
+  for (const wanted of [
+    "textbox Request", "status", "tablist What is shown", "tab Nodes", "tab Tokens", "tab Canonical text", "tab Complexity", "tabpanel Nodes",
+    "heading Firthnapkin", "group Examples", "button an error",
+  ])
+    expect(`what a screen reader is told: ${wanted}`, found.includes(wanted), true);
+}
+
+// The contrast of text and ground, light and dark, is that of WCAG's level AA.
+const CONTRAST = `(() => {
+  const light = (color) => {
+    const [r, g, b] = color.match(/[0-9.]+/g).map((part) => part / 255).map((part) => (part <= 0.03928 ? part / 12.92 : ((part + 0.055) / 1.055) ** 2.4));
+    return 0.2126 * r + 0.7152 * g + 0.0722 * b;
+  };
+  const of = (a, b) => { const [x, y] = [light(a), light(b)].sort((p, q) => q - p); return (x + 0.05) / (y + 0.05); };
+  const color = (name) => getComputedStyle(document.querySelector(name)).color;
+  const ground = getComputedStyle(document.body).backgroundColor;
+  return [["body", color("body")], ["header p", color("header p")], ["#status", color("#status")], ["#examples button", color("#examples button")]]
+    .filter(([, ink]) => of(ink, ground) < 4.5).map(([name]) => name).concat(light(ground) < 0.5 ? "dark" : "light");
+})()`;
+
+async function testColors(page) {
+  for (const value of ["light", "dark"]) {
+    await page.send("Emulation.setEmulatedMedia", { features: [{ name: "prefers-color-scheme", value }] });
+    expect(`the colours, ${value}`, await page.evaluate(CONTRAST), [value]);
+  }
+}
+
+async function testPage(browser, folder) {
+  bundle("page", folder, wasm);
+  const page = await browser.open(pathToFileURL(path.join(folder, "index.html")).href);
+  await page.until(`document.querySelector("#status").textContent.startsWith("A document")`);
+  expect("the version", await page.evaluate(`document.querySelector("#version").textContent`), `Version ${firthnapkin.version}.`);
+  for (const test of [testRequest, testErrors, testExamples, testKeyboard, testNames, testColors]) await test(page);
+  const others = browser.requests.filter((url) => !url.startsWith("file:") && url !== "about:blank");
+  expect("what the page asks of the network", others, []);
+}
+
+// The ES module, with the module beside it, over HTTP.
+async function testModule(browser, folder) {
+  fs.copyFileSync(wasm, path.join(folder, "firthnapkin.wasm"));
+  bundle("module", path.join(folder, "firthnapkin.mjs"));
+  const types = { ".mjs": "text/javascript", ".wasm": "application/wasm" };
+  const server = http.createServer((request, response) => {
+    const type = types[path.extname(request.url)];
+    response.writeHead(200, { "content-type": type ?? "text/html" });
+    response.end(type ? fs.readFileSync(path.join(folder, path.basename(request.url))) : "<title>module</title>");
+  });
+  await new Promise((resolve) => server.listen(0, "127.0.0.1", resolve));
+  try {
+    const page = await browser.open(`http://127.0.0.1:${server.address().port}/`);
+    const said = await page.evaluate(`import("/firthnapkin.mjs").then((found) => [
+      Object.keys(found).sort(), JSON.stringify([...found.parse(${JSON.stringify(REQUEST)})]), found.canonical(${JSON.stringify(REQUEST)}),
+      (() => { try { found.check("{ a )"); } catch (error) { return [error.message, error.excerpt]; } })(),
+    ])`);
+    const error = errorOf(() => firthnapkin.check("{ a )"));
+    expect("the ES module in Chromium", said, [
+      [...Object.keys(firthnapkin), "default"].sort(), JSON.stringify([...firthnapkin.parse(REQUEST)]), firthnapkin.canonical(REQUEST),
+      [error.message, error.excerpt],
+    ]);
+  } finally {
+    server.closeAllConnections?.();
+    server.close();
+  }
+}
+
+async function main() {
+  const folder = fs.mkdtempSync(path.join(os.tmpdir(), "playground-"));
+  const browser = new Browser(program);
+  try {
+    await testPage(browser, folder);
+    await testModule(browser, folder);
+  } catch (error) {
+    expect("the tests", String(error), "no error");
+  } finally {
+    await browser.close();
+    fs.rmSync(folder, { recursive: true, force: true });
+  }
+  console.log(`${passed} passed, ${failed} failed`);
+  process.exit(failed === 0 ? 0 : 1);
+}
+
+main();
