@@ -100,19 +100,19 @@ keep_list() {
 # sums_of_link [PROCESSOR]: the sums of what ./c-library links, of what says how, and of what it made, for x86-64 if none is named.
 # False if one is missing.
 sums_of_link() {
-    local inside=out/${1:+$1/} proved sources=(c-library) made
+    local inside=out/${1:+$1/} proved sources=(c-library) products
     proved=$(archive_for "$@")
-    made=("$inside"libfirthnapkin.{a,so.0,so})
+    products=("$inside"libfirthnapkin.{a,so.0,so})
     case ${1-} in
         '') ;;
         wasm32)
             sources+=(include/firthnapkin.h bindings/{check,kept,sizes,whole}.h)
             sources+=(scripts/wasm/{build,retarget.py,{calls,memory,words}.c,memory.h,include/{one_stack,stddef,stdint,stdio,stdlib,string}.h})
-            made=("$inside"firthnapkin.wasm)
+            products=("$inside"firthnapkin.wasm)
             ;;
         *) sources+=(scripts/heap.c) ;;
     esac
-    (cd "$root" && sha256sum "${proved#"$root/"}" "${sources[@]}" "${made[@]}" 2> /dev/null)
+    (cd "$root" && sha256sum "${proved#"$root/"}" "${sources[@]}" "${products[@]}" 2> /dev/null)
 }
 
 # is_linked [PROCESSOR]: whether the library for C is there as ./c-library linked it.

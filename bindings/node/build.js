@@ -4,23 +4,26 @@
 // Where there is no addon, the package uses its WebAssembly module. In the repository ./c-library --target wasm32 builds the module,
 // which is copied here, and an ES module is made for browsers.
 //
-//     node build.js [PROCESSOR]    for another processor, which $CC compiles for: x64 or arm64
+//     node build.js [PROCESSOR [musl]]    for another processor or C library, which $CC compiles for: x64 or arm64
 "use strict";
 
-const { execFileSync } = require("child_process");
+const { execFileSync, spawnSync } = require("child_process");
 const fs = require("fs");
 const os = require("os");
 const path = require("path");
-const { nameFor } = require("./lib/addon");
+const { muslLoader, nameFor } = require("./lib/addon");
 
+const loader = muslLoader();
 const processor = process.argv[2] || process.arch;
+const isMusl = process.argv[2] ? process.argv[3] === "musl" : loader !== "";
+const isForThisNode = processor === process.arch && isMusl === (loader !== "");
 const folder = processor === "arm64" ? "aarch64" : "";
 const inside = path.join(__dirname, "native");
 const isRelease = fs.existsSync(inside);
 const root = path.join(__dirname, "..", "..");
 const library = path.join(isRelease ? inside : path.join(root, "out"), folder, "libfirthnapkin.a");
 const headers = path.join(path.dirname(fs.realpathSync(process.execPath)), "..", "include", "node");
-const output = path.join(__dirname, nameFor(processor));
+const output = path.join(__dirname, nameFor(processor, isMusl));
 const module32 = path.join(root, "out", "wasm32", "firthnapkin.wasm");
 const [copied, forBrowsers] = ["firthnapkin.wasm", "firthnapkin.mjs"].map((name) => path.join(__dirname, name));
 
@@ -39,19 +42,28 @@ function takeModule() {
   execFileSync(process.execPath, [path.join(root, "scripts", "wasm", "bundle.js"), "module", forBrowsers]);
 }
 
-// Whether a version of glibc is 2.17 or later.
-function suffices(version) {
+// Whether a version is this one or a later one.
+function isFrom(version, firstMajor, firstMinor) {
   const [major, minor] = version.split(".").map(Number);
-  return major > 2 || (major === 2 && minor >= 17);
+  return major > firstMajor || (major === firstMajor && minor >= firstMinor);
+}
+
+// The C library of this Node, as messages name it, and whether the archive works with it. musl's loader writes its version where it is
+// run without a program.
+function cLibrary() {
+  const glibc = process.report.getReport().header.glibcVersionRuntime;
+  if (glibc) return [`glibc ${glibc}`, isFrom(glibc, 2, 17)];
+  const [, musl] = (loader && /^Version ([0-9.]+)/m.exec(String(spawnSync(loader).stderr))) || [];
+  return musl ? [`musl ${musl}`, isFrom(musl, 1, 2)] : ["a C library that is neither glibc nor musl", false];
 }
 
 function checkMachine() {
-  const glibc = process.report.getReport().header.glibcVersionRuntime;
+  const [name, suffices] = cLibrary();
   const machine = ["x64", "arm64"].includes(process.arch) && os.machine ? os.machine() : process.arch;
   const isKnown = ["x64", "x86_64", "arm64", "aarch64"].includes(machine);
-  if (process.platform !== "linux" || !isKnown || !glibc || !suffices(glibc)) {
-    const found = `${os.type()} on ${machine} with ${glibc ? `glibc ${glibc}` : "a C library that is not glibc"}`;
-    fail(`'s addon is for Linux on x86-64 or aarch64 with glibc 2.17 or later, and this machine is ${found}`);
+  if (process.platform !== "linux" || !isKnown || !suffices) {
+    const wanted = "Linux on x86-64 or aarch64 with glibc 2.17 or later, or musl 1.2 or later";
+    fail(`'s addon is for ${wanted}, and this machine is ${os.type()} on ${machine} with ${name}`);
   }
 }
 
@@ -78,7 +90,7 @@ function build() {
   } catch (error) {
     fail(`: the addon is not built: ${error.message.split("\n")[0]}`);
   }
-  if (processor === process.arch) fs.writeFileSync(path.join(__dirname, "lib", "limits.d.ts"), require("./lib/limits").declaration());
+  if (isForThisNode) fs.writeFileSync(path.join(__dirname, "lib", "limits.d.ts"), require("./lib/limits").declaration());
 }
 
 if (!isRelease) takeModule();

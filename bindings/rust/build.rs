@@ -5,11 +5,11 @@ use std::path::Path;
 fn main() {
     let target = ["OS", "ARCH", "ENV"].map(|part| variable(&format!("CARGO_CFG_TARGET_{part}"))).join("-");
     let (below, option) = match target.as_str() {
-        "linux-x86_64-gnu" => ("", ""),
-        "linux-aarch64-gnu" => ("aarch64", " --target aarch64"),
+        "linux-x86_64-gnu" | "linux-x86_64-musl" => ("", ""),
+        "linux-aarch64-gnu" | "linux-aarch64-musl" => ("aarch64", " --target aarch64"),
         _ => {
             eprintln!(
-                "firthnapkin is for Linux on x86-64 or aarch64 with glibc, and this target is {}",
+                "firthnapkin is for Linux on x86-64 or aarch64 with glibc or musl, and this target is {}",
                 variable("TARGET")
             );
             std::process::exit(1);

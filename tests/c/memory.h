@@ -20,7 +20,7 @@ static inline uint8_t *canaries(size_t length) {
     return block;
 }
 
-static int are_canaries(const void *block, size_t length) {
+static inline int are_canaries(const void *block, size_t length) {
     for (size_t i = 0; i < length; i++)
         if (((const uint8_t *)block)[i] != CANARY) return 0;
     return 1;
@@ -36,7 +36,7 @@ static inline int same_nodes(const firthnapkin_node *a, const firthnapkin_node *
 static const size_t FOUR_GIB = (size_t)1 << 32;
 
 /* A source of 4 GiB of which no byte can be read; NULL, and skipped, if there is no address space for it. */
-static void *too_long_source(void) {
+static inline void *too_long_source(void) {
     void *source = mmap(NULL, FOUR_GIB, PROT_NONE, MAP_PRIVATE | MAP_ANONYMOUS | MAP_NORESERVE, -1, 0);
     if (source != MAP_FAILED) return source;
     skip("no address space for 4 GiB, so status %d is not tried", FIRTHNAPKIN_SOURCE_TOO_LONG);

@@ -55,7 +55,8 @@ const SHOWN = {
   panel: `document.querySelector("#panel").textContent`,
   status: `document.querySelector("#status").textContent`,
   excerpt: `(({ hidden, textContent }) => hidden ? null : textContent)(document.querySelector("#excerpt"))`,
-  marked: `document.querySelector("#backdrop mark.bad")?.textContent ?? null`,
+  // What is before the mark of an error, and what is marked.
+  marked: `((it) => it && [it.previousSibling.textContent, it.textContent])(document.querySelector("#backdrop mark.bad"))`,
   invalid: `document.querySelector("#source").getAttribute("aria-invalid")`,
   focus: `document.activeElement.id`,
   selected: `[...document.querySelectorAll('[role="tab"]')].filter((it) => it.ariaSelected === "true").map((it) => it.id)`,
@@ -107,7 +108,7 @@ async function testErrors(page) {
   for (const source of ERRORS) {
     await page.type(source);
     const error = errorOf(() => firthnapkin.parse(source));
-    const marked = source.slice(error.start.index, error.end.index) || " ";
+    const marked = [source.slice(0, error.start.index), source.slice(error.start.index, error.end.index) || " "];
     expect(`the error of ${source.slice(0, 30)}`, await shown(page, "status", "excerpt", "marked", "invalid", "panel"), [
       error.message, error.excerpt, marked, "true", `Nothing to show. ${error.message}`,
     ]);

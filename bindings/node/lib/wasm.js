@@ -80,9 +80,10 @@ class Instance {
     const { words } = this;
     const status = statuses[words[at]] ?? this.text(STATUSES, words[at]);
     if (status === "out_of_memory") throw new Error("memory ran out");
-    const result = { status, parts: this.copied(words[at + 1], words[at + 2], allocate), texts: this.copied(words[at + 3], words[at + 4], allocate) };
-    if (words[at + 6] !== 0) result.complexities = this.copied(words[at + 5], words[at + 6], allocate);
-    return result;
+    const parts = this.copied(words[at + 1], words[at + 2], allocate);
+    const texts = this.copied(words[at + 3], words[at + 4], allocate);
+    const complexities = words[at + 6] === 0 ? undefined : this.copied(words[at + 5], words[at + 6], allocate);
+    return { status, parts, texts, complexities };
   }
 
   // What a call of this name finds in a source, with one number more.

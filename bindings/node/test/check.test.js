@@ -137,7 +137,10 @@ test("the library is called once for a small source, and nothing is parsed into 
   }
 });
 
+// Why no memory is limited.
 const hasLimits = process.platform === "linux" && spawnSync("prlimit", ["--version"]).status === 0;
+let unlimited = hasLimits ? false : "no prlimit, so memory is not limited";
+if ("FIRTHNAPKIN_IS_EMULATED" in process.env) unlimited = "under qemu-user the memory of qemu would be limited";
 
 // A source whose nodes would take 256 megabytes, with room for 160 more than the process has.
 const LITTLE = `
@@ -154,7 +157,7 @@ const LITTLE = `
 `;
 
 // A module's memory is reserved when it is loaded, so that a limit on the process limits no call.
-if (process.env.FIRTHNAPKIN_WASM !== "1") test("a check takes no memory for nodes", { skip: hasLimits ? false : "no prlimit, so memory is not limited" }, () => {
+if (process.env.FIRTHNAPKIN_WASM !== "1") test("a check takes no memory for nodes", { skip: unlimited }, () => {
   assert.deepStrictEqual(JSON.parse(execFileSync(process.execPath, ["-e", LITTLE], { encoding: "utf8" })), [
     "undefined", "undefined", "Too many fields in an operation without a name: 4194304, with a limit of 5. At 1:1",
     'Unexpected ")". At 1:8388611', "memory ran out",

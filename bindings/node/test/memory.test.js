@@ -86,12 +86,15 @@ const LITTLE = `${LIMITED}
   console.log(JSON.stringify([...results].sort()), parse("{ a }").length);
 `;
 
+// Why no memory is limited.
 const hasLimits = process.platform === "linux" && spawnSync("prlimit", ["--version"]).status === 0;
+let unlimited = hasLimits ? false : "no prlimit, so memory is not limited";
+if ("FIRTHNAPKIN_IS_EMULATED" in process.env) unlimited = "under qemu-user the memory of qemu would be limited";
 // The tests of the addon alone aren't those of the WebAssembly module, which wasm.test.js has: a module's memory is reserved when it is
 // loaded, so that a limit on the process limits no call, and what its calls take is what lib/calls.js passes.
 const isAddon = process.env.FIRTHNAPKIN_WASM !== "1";
 
-if (isAddon) test("a process with little memory", { skip: hasLimits ? false : "no prlimit, so memory is not limited" }, () => {
+if (isAddon) test("a process with little memory", { skip: unlimited }, () => {
   const wanted = [
     "Error: memory ran out", "FirthnapkinError: Too many fields in an operation without a name: 131072, with a limit of 131071. At 1:1",
     'FirthnapkinError: Unexpected ")". At 1:393217', "fields: 262144", "nodes: 262144", "within: 131072",

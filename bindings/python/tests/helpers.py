@@ -34,6 +34,10 @@ def words_of(limits: bytes) -> Tuple[int, ...]:
     return struct.unpack("=13I", limits)
 
 
+# Skips a test that limits the memory of a process: under qemu-user that of qemu would be limited, too.
+limits_memory = unittest.skipIf("FIRTHNAPKIN_IS_EMULATED" in os.environ, "under qemu-user the memory of qemu would be limited")
+
+
 def process(program: str) -> "subprocess.CompletedProcess[bytes]":
     """A run of another Python on a program."""
     here = os.path.dirname(os.path.abspath(__file__))

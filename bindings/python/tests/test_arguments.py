@@ -9,7 +9,7 @@ from unittest import mock
 import firthnapkin
 from firthnapkin import MAX_DEPTH, ErrorKind, FirthnapkinError, Kind, Position, __version__, canonical, parse, tokens
 from firthnapkin.limits import packed
-from helpers import LARGE_LIMITS, LOW_LIMITS, NO_LIMITS, NO_SOURCES, Text, on_stack, process
+from helpers import LARGE_LIMITS, LOW_LIMITS, NO_LIMITS, NO_SOURCES, Text, limits_memory, on_stack, process
 
 
 # The limits of a call that is given none, as the extension takes them.
@@ -224,6 +224,7 @@ class Statuses(unittest.TestCase):
             with self.assertRaises(TypeError):
                 firthnapkin._parser.excerpt(*arguments)  # type: ignore[arg-type]
 
+    @limits_memory
     def test_memory(self) -> None:
         """The process goes on after memory has run out."""
         weighed = packed(200, 2**32 - 1, 0, 0, 0, 0, 0, 0, 2**30)

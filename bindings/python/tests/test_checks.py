@@ -13,6 +13,7 @@ from helpers import (
     NO_SOURCES,
     Text,
     in_threads,
+    limits_memory,
     longest_wait,
     on_stack,
     process,
@@ -187,6 +188,7 @@ class Arguments(unittest.TestCase):
 
 
 class Machine(unittest.TestCase):
+    @limits_memory
     def test_builds_nothing(self) -> None:
         """A check takes no memory for nodes, of which this text has 8 million of 64 bytes each."""
         found = process(
@@ -203,6 +205,7 @@ class Machine(unittest.TestCase):
         wanted = b"Too many fields in an operation without a name: 8388608, with a limit of 5\nmemory\n"
         self.assertEqual((found.returncode, found.stdout), (0, wanted), found.stderr)
 
+    @limits_memory
     def test_memory(self) -> None:
         """The process goes on after memory has run out."""
         found = process(

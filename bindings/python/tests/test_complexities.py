@@ -9,7 +9,7 @@ from unittest import mock
 import firthnapkin
 from firthnapkin import Complexity, Document, ErrorKind, FirthnapkinError, Position, parse
 from firthnapkin.limits import packed
-from helpers import in_threads, longest_wait, process, resident
+from helpers import in_threads, limits_memory, longest_wait, process, resident
 
 SIZES = ("max_fields", "max_aliases", "max_directives", "max_root_fields", "max_field_depth")
 NOUNS = ("fields", "aliases", "directives", "root fields", "levels of fields")
@@ -276,6 +276,7 @@ class Memory(unittest.TestCase):
                     pass
         self.assertLess(resident() - before, 2**22)
 
+    @limits_memory
     def test_little_memory(self) -> None:
         """Want of memory is an error of its own, and never an answer: fragments are found with memory alone."""
         found = process(

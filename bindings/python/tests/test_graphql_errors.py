@@ -6,7 +6,7 @@ import unittest
 from typing import Any, Iterable, List, Tuple
 from unittest import mock
 
-from helpers import process
+from helpers import limits_memory, process
 from graphql_texts import WHOLE, answer, made_texts, row_texts  # skips if graphql-core 3.2 is not installed
 from test_graphql_limits import FAULTY, HAS_OPTION, READ, nobody_else
 
@@ -157,6 +157,7 @@ class Errors(unittest.TestCase):
                 answer(graphql_core.parse, text, max_tokens=most), answer(own_parse, text, max_tokens=most), (text, most)
             )
 
+    @limits_memory
     def test_memory(self) -> None:
         """None is kept, and want of it is a MemoryError."""
         found = process(

@@ -13,7 +13,7 @@ from contextlib import ExitStack, contextmanager
 from typing import Any, Iterator, List, Tuple, get_type_hints
 from unittest import mock
 
-from helpers import NO_SIZES, process, resident, words_of
+from helpers import NO_SIZES, limits_memory, process, resident, words_of
 from graphql_texts import WHOLE, answer, extension, made_texts, row_texts  # skips if graphql-core 3.2 is not installed
 
 import graphql
@@ -192,6 +192,7 @@ class TooMany(unittest.TestCase):
             for most in (total, total + 1, total + 9, 2**32 - 1):
                 self.assertEqual(answer(graphql_core.parse, text, max_tokens=most), answer(own_parse, text))
 
+    @limits_memory
     def test_want_of_memory(self) -> None:
         for end in ("", "#"):
             with self.subTest(end=end):

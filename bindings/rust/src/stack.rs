@@ -53,7 +53,7 @@ fn left() -> Option<usize> {
         .map(|(lowest, _)| here - lowest)
 }
 
-#[cfg(all(target_os = "linux", target_env = "gnu"))]
+#[cfg(all(target_os = "linux", any(target_env = "gnu", target_env = "musl")))]
 mod bounds {
     use std::cell::Cell;
     use std::ffi::{c_int, c_void};
@@ -97,7 +97,7 @@ mod bounds {
     }
 }
 
-#[cfg(not(all(target_os = "linux", target_env = "gnu")))]
+#[cfg(not(all(target_os = "linux", any(target_env = "gnu", target_env = "musl"))))]
 mod bounds {
     pub(super) fn of_this_thread() -> Option<(usize, usize)> {
         None

@@ -1,0 +1,85 @@
+# How tests/check_installs tries what a release has for musl. FIRTHNAPKIN_MUSL_PYTHON names a Python that is linked with musl. It is
+# sourced by that script.
+# shellcheck shell=bash
+
+# with_musl VERSION COMMAND ..: as if this machine's Python and Node were programs of this musl: $standing names the program that
+# they are told to be, and this script is its loader.
+standing=$folder/with-musl/bin/node
+with_musl() {
+    printf '#!/bin/sh\necho "musl libc (x86_64)" >&2\necho "Version %s" >&2\nexit 1\n' "$1" > "$folder/ld-musl-here.so.1"
+    chmod +x "$folder/ld-musl-here.so.1"
+    rm -f "$folder/called"
+    FAKE_GLIBC='' LD_PRELOAD=$folder/fake.so CC=$folder/no-compiler "${@:2}" 2>&1
+}
+
+# Headers of Node are found beside it.
+stand_in_of_musl() {
+    mkdir -p "${standing%/*}"
+    ln -s "$(realpath "$(command -v node)" | sed 's|/bin/[^/]*$||')/include" "$folder/with-musl/include"
+    echo 'int main(void) { return 0; }' |
+        "$compiler" -x c -o "$standing" - "-Wl,--dynamic-linker=$folder/ld-musl-here.so.1"
+}
+
+# What a machine with an older musl is told.
+OLDER='firthnapkin is for Linux on x86-64 or aarch64 with glibc 2.17 or later, or musl 1.2 or later, and this machine is '
+OLDER+='Linux on x86_64 with musl 1.1.24'
+
+# The source distribution and the wheel for this processor.
+musl_python() {
+    local wheel=firthnapkin-$version-cp39-abi3-musllinux_1_2_x86_64.whl unpack='pip install --no-index --no-deps --only-binary=:all:'
+    local setup='import sys; sys.executable, __file__ = sys.argv.pop(1), "setup.py"; exec(open(__file__).read())'
+    new_folder musl-python
+    tar -xzf "firthnapkin-$version.tar.gz" && cd "firthnapkin-$version" || return
+    same 'the source distribution with an older musl' "$(with_musl 1.1.24 "$python" -c "$setup" "$standing" --version)" "$OLDER"
+    same 'the source distribution with musl' "$(with_musl 1.2.0 "$python" -c "$setup" "$standing" --version)" "$version"
+    cd .. && [ -e "$wheel" ] || return
+    runs 'pip unpacks the wheel for musl' "$python" -m $unpack --target site --platform musllinux_1_2_x86_64 "$wheel"
+    same 'the wheel for musl, with an older one' \
+        "$("$python" -m $unpack --target older --platform musllinux_1_1_x86_64 "$wheel" 2>&1 | grep -o 'is not a supported wheel')" \
+        'is not a supported wheel'
+    same 'the wheel for musl, with glibc' \
+        "$("$python" -m $unpack --target glibc "$wheel" 2>&1 | grep -o 'is not a supported wheel')" 'is not a supported wheel'
+    if [ -z "${FIRTHNAPKIN_MUSL_PYTHON:-}" ]; then
+        skip 'no Python with musl: FIRTHNAPKIN_MUSL_PYTHON may name one'
+    else
+        program ../python/README.md > main.py
+        same "Python's program with musl" "$(PYTHONPATH=$PWD/site "$FIRTHNAPKIN_MUSL_PYTHON" main.py 2>&1)" "$(shown ../python/README.md)"
+    fi
+}
+
+# The package for Node, as it was installed. No Node with musl is here, so no addon for it is loaded: with an older musl its install
+# script ends, and with another it calls the compiler, since this Node doesn't load that addon.
+musl_node() {
+    local build=node_modules/firthnapkin/build.js
+    new_folder musl-node
+    runs 'npm init for musl' npm init --yes
+    runs 'npm installs it for musl, too' npm install "firthnapkin-$version.tgz" || return
+    echo "process.execPath = '$standing';" > standing.js
+    same "Node's install script with an older musl" "$(with_musl 1.1.24 node -r ./standing.js $build)" "$OLDER"
+    if [ -e "$folder/called" ]; then fails "Node's install script calls a compiler with an older musl"; else passes; fi
+    with_musl 1.2.0 node -r ./standing.js $build > "$folder/output"
+    if [ -e "$folder/called" ]; then passes; else fails "Node's install script with musl: $(tail -n 3 "$folder/output")"; fi
+}
+
+# A target's library may not be there, so no program is linked: the build script names the archive.
+musl_rust() {
+    local target=x86_64-unknown-linux-musl
+    new_folder musl-rust
+    export CARGO_NET_OFFLINE=true CARGO_TARGET_DIR=$folder/cargo-musl
+    runs 'cargo init for musl' cargo init --quiet --name user --vcs none
+    runs 'cargo adds it for musl' eval "$(block "$folder/rust.md" 1)" || return
+    names_archive $target native
+    [ ! -e "firthnapkin-$version/native/aarch64" ] || names_archive aarch64-unknown-linux-musl native/aarch64
+    if [ ! -d "$(rustc --print sysroot)/lib/rustlib/$target/lib" ]; then
+        skip "no library of Rust for $target"
+    else
+        program "$folder/rust.md" > src/main.rs
+        same "Rust's program with musl" "$(cargo run --quiet --target $target 2>&1)" "$(shown "$folder/rust.md")"
+    fi
+}
+
+# names_archive TARGET FOLDER: the folder of the archive that the crate's build script names.
+names_archive() {
+    same "the archive that the crate links for $1" \
+        "$(cargo build -vv --target "$1" 2>&1 | sed -n 's|/$||; s|.*rustc-link-search=native=||p')" "$PWD/firthnapkin-$version/$2"
+}
