@@ -2,7 +2,7 @@
 # a crate, FUNCTION the path of a function, WORD a part of one, PREFIX and FOLDER are folders, COUNT is a number: `make check NAME=juniper`.
 
 .DEFAULT_GOAL := help
-.PHONY: help prove check check-one try format must-fail plant rows refusals growth figures library wrong-bodies install wasm page release \
+.PHONY: help prove check check-one try format must-fail plant rows refusals growth figures shapes library wrong-bodies install wasm page release \
     check-release version instructions speed habits style fix graphql-core graphql-js gate
 
 help: # list these names
@@ -40,6 +40,9 @@ growth: # see how much more twice the input takes
 
 figures: # write what each call takes now
 	scripts/growth --figures
+
+shapes: # see how much more made shapes of twice the size take
+	scripts/shapes
 
 library: # test the library for C and its packages
 	tests/check_library

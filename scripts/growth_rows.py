@@ -171,6 +171,8 @@ CALLS = [(("input_value", call), name, text, most) for call, name, text, most in
     (("cursor", "parse_value_literal"), "an object", OBJECT("k№: 1 "), LINEAR),
     (("line_table",), "line feeds", WORDS("a\n"), LINEAR),
     (("line_table",), "text past ASCII", WORDS("é\n"), LINEAR),
+    # The byte of each character: by `byte_offset`, which is linear, and by a `ByteTable`, whose look-up is linear in the line.
+    (("bytes",), "lines", lambda n: times(n // 10, "é a\n"), SQUARE),
     (("name", "unexpected_token"), "a name", WORDS("a"), LINEAR),
     (("name", "new"), "a long name", WORDS("a"), LINEAR),
     (("scalar", "from_str"), "escapes", TOKEN("String", r"\u00e9\n"), LINEAR),
@@ -212,6 +214,34 @@ REQUESTING = {
         for name in ("a long name", "escapes", "text past ASCII", "a fault at the end", "a lexical fault at the end")
     },
 }
+
+# The sizes at which it is measured how the requested bytes grow: each number of a few parts, and then each power of two.
+SWEPT_SIZES = [*range(2, 16, 2), *(2**power + half for power in range(4, 9) for half in (0, 2 ** (power - 1)))]
+SWEPT_SIZES += [2**power for power in range(9, 21)]
+# What is read at each size: by gqlcheck, which builds trees, and by each call from C and gqlcanon.
+SWEPT_IN_TREES = (
+    "fields",
+    "fragments",
+    "definitions",
+    "variables",
+    "arguments",
+    "a list",
+    "an object of many fields",
+    "directives",
+)
+SWEPT_ELSEWHERE = ("fields", "definitions", "text past ASCII", "a fault at the end")
+# How many times as many bytes may be requested for a larger input, beyond how much larger it is, and for a smaller one than for it.
+STEP, FALL = 1.6, 1.3
+
+
+def jumps(sizes, requested, slack):
+    """Where more bytes are requested than the next smaller or the next larger size says: growth is linear, from so many bytes on."""
+    found = []
+    for m, n, before, after in zip(sizes, sizes[1:], requested, requested[1:]):
+        if after > STEP * before * n / m + slack or before > FALL * after + slack:
+            found.append(f"{before} bytes for {m}, {after} for {n}")
+    return "; ".join(found)
+
 
 # The texts on which the system calls of each program are counted: one is long when read, the other when written, too.
 SPREAD = ("spaces", "fields")

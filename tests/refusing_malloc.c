@@ -5,7 +5,8 @@
  * counted from 1, and if REFUSED_ONWARDS is set each counted one after it. At the end it writes five numbers to the file
  * that REFUSALS_FILE names: the requests that were counted, those that were refused, the blocks that were not freed, how
  * many more bytes the program held at most while requests were counted than it held before, and how many bytes the counted
- * requests asked for, the whole block if one is resized.
+ * requests asked for, the whole block if one is resized. To the file that REQUESTS_FILE names it writes, at each line of
+ * standard output, how many bytes were asked for up to there.
  */
 #define _GNU_SOURCE
 #include <errno.h>
@@ -23,7 +24,7 @@ extern void *__libc_realloc(void *, size_t);
 extern void *__libc_memalign(size_t, size_t);
 extern void __libc_free(void *);
 
-static int is_from_start, is_onwards;
+static int is_from_start, is_onwards, requests_file = -1;
 static unsigned long refused_request, requests, refusals, lines, requested;
 static long blocks, held, most_held;
 
@@ -32,6 +33,8 @@ __attribute__((constructor)) static void begin(void) {
     refused_request = number ? strtoul(number, NULL, 10) : 0;
     is_onwards = getenv("REFUSED_ONWARDS") != NULL;
     is_from_start = getenv("REFUSALS_FROM_START") != NULL;
+    const char *name = getenv("REQUESTS_FILE");
+    if (name != NULL) requests_file = open(name, O_WRONLY | O_CREAT | O_TRUNC | O_CLOEXEC, 0600);
     blocks = 0;
 }
 
@@ -109,11 +112,20 @@ void free(void *block) {
     __libc_free(block);
 }
 
+/* Counts a line of standard output, and notes what was asked for. */
+static void end_line(void) {
+    char line[30];
+    lines++;
+    if (requests_file >= 0) syscall(SYS_write, requests_file, line, snprintf(line, sizeof line, "%lu\n", requested));
+}
+
 /* Writes, and counts the lines that are written to standard output. */
 ssize_t write(int file, const void *bytes, size_t count) {
     ssize_t written = syscall(SYS_write, file, bytes, count);
     if (file == 1) {
-        for (ssize_t i = 0; i < written; i++) lines += ((const char *)bytes)[i] == '\n';
+        for (ssize_t i = 0; i < written; i++) {
+            if (((const char *)bytes)[i] == '\n') end_line();
+        }
     }
     return written;
 }

@@ -236,8 +236,19 @@ func TestSources(t *testing.T) {
 }
 
 func TestStatuses(t *testing.T) {
-	same(t, "the errors of statuses", []error{errorOf(2, "", nil), errorOf(3, "", nil), errorOf(7, "", nil)},
-		[]error{ErrNotUTF8, ErrOutOfMemory, ErrSourceTooLong})
+	named := []error{errorOf(2, "", nil), errorOf(3, "", nil), errorOf(7, "", nil), errorOf(8, "", nil)}
+	same(t, "the errors of statuses", named, []error{ErrNotUTF8, ErrOutOfMemory, ErrSourceTooLong, ErrInvalidLimit})
+	others := []error{errorOf(0, "", nil), errorOf(6, "", nil), errorOf(9, "", nil), errorOf(12, "", nil)}
+	for i, name := range []string{"ok", "buffer_too_small", "invalid_error", "unknown"} {
+		same(t, "the error of another", others[i].Error(), "firthnapkin: the parser returned "+name)
+	}
+	all := append(named, others...)
+	all = append(all, refused(t, "{", 9), refused(t, "{", 9))
+	for i, one := range all {
+		for k, other := range all {
+			same(t, fmt.Sprint(one, " is ", other), errors.Is(one, other), i == k)
+		}
+	}
 	for err, message := range map[error]string{
 		ErrNotUTF8:       "the source is not UTF-8",
 		ErrOutOfMemory:   "memory ran out",
@@ -246,7 +257,6 @@ func TestStatuses(t *testing.T) {
 	} {
 		same(t, "the words of an error", err.Error(), "firthnapkin: "+message)
 	}
-	same(t, "the error of another", errorOf(9, "", nil).Error(), "firthnapkin: the parser returned invalid_error")
 }
 
 func ExampleParse() {

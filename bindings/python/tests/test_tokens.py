@@ -1,6 +1,7 @@
 """The tokens of a text, and its canonical text."""
 
 import copy
+import os
 import pickle
 import unittest
 from typing import Any, Callable, List
@@ -215,7 +216,7 @@ class Processes(unittest.TestCase):
         def work() -> None:
             found.extend((len(tokens("{a" * 100000)), canonical("{ a " * 5), error_of(canonical, "{" * 9 + "?").column))
 
-        on_stack(64 * 1024, work)
+        on_stack(max(64 * 1024, os.sysconf("SC_THREAD_STACK_MIN")), work)
         self.assertEqual(found, [200001, "{a{a{a{a{a", 10])
 
     def test_threads(self) -> None:
