@@ -39,8 +39,8 @@ typedef struct {
 /* Brackets nested 200 deep, and any number of tokens. */
 #define FIRTHNAPKIN_LIMITS_DEFAULT {200, UINT32_MAX, {0}}
 
-/* The bytes of stack that suffice for a call with this depth; measured on x86-64, where a level takes at most 2,100. */
-#define FIRTHNAPKIN_STACK_SIZE(depth) ((size_t)32768 + (size_t)2304 * (depth))
+/* The bytes of stack that suffice for a call with this depth: twice what was measured, where a level takes at most 512. */
+#define FIRTHNAPKIN_STACK_SIZE(depth) ((size_t)32768 + (size_t)1024 * (depth))
 
 /* What a call returns. Each call says which of these it returns, and what FIRTHNAPKIN_OK and FIRTHNAPKIN_SYNTAX_ERROR mean
  * there. If several hold, the first line of this table that holds is returned:

@@ -4,7 +4,7 @@ use std::{io, panic, thread};
 
 /// So many bytes are enough for a call with this depth: `FIRTHNAPKIN_STACK_SIZE` of the header, and this crate's own.
 const fn needed(depth: u32) -> usize {
-    32768 + 2304 * depth as usize + OWN
+    32768 + 1024 * depth as usize + OWN
 }
 
 const OWN: usize = 1 << 14;
