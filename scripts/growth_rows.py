@@ -234,11 +234,11 @@ SWEPT_ELSEWHERE = ("fields", "definitions", "text past ASCII", "a fault at the e
 STEP, FALL = 1.6, 1.3
 
 
-def jumps(sizes, requested, slack):
+def jumps(sizes, requested, slack, step=STEP):
     """Where more bytes are requested than the next smaller or the next larger size says: growth is linear, from so many bytes on."""
     found = []
     for m, n, before, after in zip(sizes, sizes[1:], requested, requested[1:]):
-        if after > STEP * before * n / m + slack or before > FALL * after + slack:
+        if after > step * before * n / m + slack or before > FALL * after + slack:
             found.append(f"{before} bytes for {m}, {after} for {n}")
     return "; ".join(found)
 

@@ -48,14 +48,16 @@ musl_python() {
 }
 
 # The package for Node, as it was installed. No Node with musl is here, so no addon for it is loaded: with an older musl its install
-# script ends, and with another it calls the compiler, since this Node doesn't load that addon.
+# script builds none, and with another it calls the compiler, since this Node doesn't load that addon.
 musl_node() {
-    local build=node_modules/firthnapkin/build.js
+    local build=node_modules/firthnapkin/build.js goes_on=''
     new_folder musl-node
     runs 'npm init for musl' npm init --yes
     runs 'npm installs it for musl, too' npm install "firthnapkin-$version.tgz" || return
     echo "process.execPath = '$standing';" > standing.js
-    same "Node's install script with an older musl" "$(with_musl 1.1.24 node -r ./standing.js $build)" "$OLDER"
+    [ ! -e node_modules/firthnapkin/firthnapkin.wasm ] || goes_on='. The WebAssembly module is used'
+    same "Node's install script with an older musl" "$(with_musl 1.1.24 node -r ./standing.js $build)" \
+        "${OLDER/firthnapkin is/"firthnapkin's addon is"}$goes_on"
     if [ -e "$folder/called" ]; then fails "Node's install script calls a compiler with an older musl"; else passes; fi
     with_musl 1.2.0 node -r ./standing.js $build > "$folder/output"
     if [ -e "$folder/called" ]; then passes; else fails "Node's install script with musl: $(tail -n 3 "$folder/output")"; fi

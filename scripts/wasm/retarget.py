@@ -24,7 +24,7 @@ STRUCTURES = ("{ ptr, i64 }", "{ i8, ptr }")
 # What is true of a value changes nothing of where it is.
 METADATA = re.compile(r"(?:, ![\w.]+ !\d+)+$")
 
-LOAD = re.compile(rf"^  (%[\w.]+) = load ptr, ptr ({NAME}), align 8$")
+LOAD = re.compile(rf"^  (%[\w.]+) = load ptr, ptr ({NAME}), align ([18])$")
 STORE = re.compile(rf"^  store ptr ({NAME}|null), ptr ({NAME}), align 8$")
 VARIABLE = re.compile(r"^  (%[\w.]+) = alloca ptr, align 8$")
 PAIR = re.compile(rf"^  (%[\w.]+) = load \{{ i8, ptr \}}, ptr ({NAME}), align 8$")
@@ -147,8 +147,8 @@ class Function:
         return [f"  {number} = ptrtoint ptr {value} to i64", f"  store i64 {number}, ptr {place}, align 8"]
 
     @staticmethod
-    def load(name, place):
-        return [f"  {name}.number = load i64, ptr {place}, align 8", f"  {name} = inttoptr i64 {name}.number to ptr"]
+    def load(name, place, alignment=8):
+        return [f"  {name}.number = load i64, ptr {place}, align {alignment}", f"  {name} = inttoptr i64 {name}.number to ptr"]
 
     @staticmethod
     def pair(name, place):
@@ -165,7 +165,7 @@ class Function:
         if variable:
             return [line] if variable[1] in self.local else [f"  {variable[1]} = alloca i64, align 8"]
         if load:
-            return [line] if load[2] in self.local else self.load(load[1], load[2])
+            return [line] if load[2] in self.local else self.load(*load.groups())
         if store:
             return [line] if store[2] in self.local else self.store(store[1], store[2])
         if pair:

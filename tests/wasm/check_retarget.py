@@ -16,6 +16,7 @@ spec.loader.exec_module(retarget)
 # What each line of a function becomes.
 REWRITTEN = {
     "  %a = load ptr, ptr %b, align 8": ["  %a.number = load i64, ptr %b, align 8", "  %a = inttoptr i64 %a.number to ptr"],
+    "  %a = load ptr, ptr %b, align 1": ["  %a.number = load i64, ptr %b, align 1", "  %a = inttoptr i64 %a.number to ptr"],
     "  %a = load ptr, ptr %b, align 8, !noundef !1": [
         "  %a.number = load i64, ptr %b, align 8",
         "  %a = inttoptr i64 %a.number to ptr",
