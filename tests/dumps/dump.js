@@ -6,20 +6,9 @@
 
 const fs = require("node:fs");
 const path = require("node:path");
+const { texts } = require("../corpus.js");
 
 const firthnapkin = require(path.resolve(process.argv[2]));
-
-function texts(file) {
-  const bytes = fs.readFileSync(file);
-  const found = [];
-  for (let at = 0; at < bytes.length; ) {
-    const feed = bytes.indexOf("\n", at);
-    const end = feed + 1 + Number(bytes.toString("latin1", at, feed));
-    found.push(bytes.toString("utf8", feed + 1, end));
-    at = end + 1;
-  }
-  return found;
-}
 
 // The names of the library: `fragment_spread` for `fragmentSpread`.
 const snake = (name) => name && name.replace(/[A-Z]/g, (letter) => `_${letter.toLowerCase()}`);

@@ -7,6 +7,7 @@
 
 const fs = require("node:fs");
 const path = require("node:path");
+const { texts } = require("../corpus.js");
 
 const firthnapkin = require(path.resolve(process.argv[2]));
 
@@ -21,18 +22,6 @@ const CALLS = [
   (text) => firthnapkin.parse(text).node(0).excerpt,
   (text) => { for (const node of firthnapkin.parse(text)) node.value; },
 ];
-
-function texts(file) {
-  const bytes = fs.readFileSync(file);
-  const found = [];
-  for (let at = 0; at < bytes.length; ) {
-    const feed = bytes.indexOf("\n", at);
-    const end = feed + 1 + Number(bytes.toString("latin1", at, feed));
-    found.push(bytes.toString("utf8", feed + 1, end));
-    at = end + 1;
-  }
-  return found;
-}
 
 function tried(call, text) {
   try {

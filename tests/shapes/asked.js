@@ -11,6 +11,7 @@
 const fs = require("node:fs");
 const path = require("node:path");
 const { inspect } = require("node:util");
+const { texts } = require("../corpus.js");
 
 const firthnapkin = require(path.resolve(process.argv[2]));
 
@@ -20,18 +21,6 @@ const OPTIONS = { depth: firthnapkin.MAX_DEPTH };
 const READING = ["excerpt"];
 // What any object can be asked, beside its properties and methods.
 const OF_ANY = [["inspect", (part) => inspect(part)]];
-
-function texts(file) {
-  const bytes = fs.readFileSync(file);
-  const found = [];
-  for (let at = 0; at < bytes.length; ) {
-    const feed = bytes.indexOf("\n", at);
-    const end = feed + 1 + Number(bytes.toString("latin1", at, feed));
-    found.push(bytes.toString("utf8", feed + 1, end));
-    at = end + 1;
-  }
-  return found;
-}
 
 const isPart = (it) => typeof it === "object" && it !== null && CLASSES.has(it.constructor);
 

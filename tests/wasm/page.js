@@ -152,7 +152,7 @@ async function testKeyboard(page) {
   expect("the panel's focus", await shown(page, "focus"), ["panel"]);
 }
 
-// What a screen reader is told: roles with their names.
+// The accessibility tree: roles with their names.
 async function testNames(page) {
   await page.send("Accessibility.enable");
   const { nodes } = await page.send("Accessibility.getFullAXTree");
@@ -161,7 +161,7 @@ async function testNames(page) {
     "textbox Request", "status", "tablist What is shown", "tab Nodes", "tab Tokens", "tab Canonical text", "tab Complexity", "tabpanel Nodes",
     "heading Firthnapkin", "group Examples", "button an error",
   ])
-    expect(`what a screen reader is told: ${wanted}`, found.includes(wanted), true);
+    expect(`in the accessibility tree: ${wanted}`, found.includes(wanted), true);
 }
 
 // The contrast of text and ground, light and dark, is that of WCAG's level AA.

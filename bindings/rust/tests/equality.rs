@@ -66,7 +66,7 @@ fn errors() {
     ]);
 }
 
-/// The last tokens but for the end of sources. Each differs from the first by one thing: by its words, by one number of its positions
+/// The last tokens of sources before the end. Each differs from the first by one thing: by its words, by one number of its positions
 /// or more, if fewer can't differ, by its kind, or by the line that its excerpt shows.
 #[test]
 fn tokens_of_sources() {

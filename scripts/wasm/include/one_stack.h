@@ -1,4 +1,4 @@
-/* In the place of bindings/calls.h: a WebAssembly module has one stack, whose size the linker is told, and no threads. */
+/* Replaces bindings/calls.h: a WebAssembly module has one stack, whose size the linker sets, and no threads. */
 #ifndef FIRTHNAPKIN_CALLS_H
 #define FIRTHNAPKIN_CALLS_H
 #include "firthnapkin.h"
