@@ -1,5 +1,5 @@
 -- Lists of tokens that are alike.
-use Rattle.std.proofs.Common.{ℕ, zero, suc, ◌≡◌, ◌∷◌, [], List, ◌++◌, length, take, refl, sym, ap, ◌∙◌}
+use Rattle.std.proofs.Common.{◌∷◌, [], List, ◌++◌, sym, ◌∙◌}
 use Rattle.std.specs.List.{AllZip}
 use Rattle.graphql_lexical.specs.Cutting.{Lexeme}
 use Rattle.graphql_lexical.specs.laws.Alike.{Alike}
@@ -24,16 +24,3 @@ alike_join [] [] cs ds p q = q
 alike_join [] (b ∷ bs) cs ds p q = absurd p
 alike_join (a ∷ as') [] cs ds p q = absurd p
 alike_join (a ∷ as') (b ∷ bs) cs ds p q = (p.0, alike_join as' bs cs ds p.1 q)
-
-pub alike_take : (i : ℕ) (as' bs : List Lexeme) → AllZip Alike as' bs → AllZip Alike (take i as') (take i bs)
-alike_take zero as' bs p = tt
-alike_take (suc i) [] [] p = tt
-alike_take (suc i) [] (b ∷ bs) p = absurd p
-alike_take (suc i) (a ∷ as') [] p = absurd p
-alike_take (suc i) (a ∷ as') (b ∷ bs) p = (p.0, alike_take i as' bs p.1)
-
-pub alike_length : (as' bs : List Lexeme) → AllZip Alike as' bs → length as' ≡ length bs
-alike_length [] [] p = refl
-alike_length [] (b ∷ bs) p = absurd p
-alike_length (a ∷ as') [] p = absurd p
-alike_length (a ∷ as') (b ∷ bs) p = ap suc (alike_length as' bs p.1)

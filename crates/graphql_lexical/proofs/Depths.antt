@@ -60,13 +60,6 @@ before_is depth ts before t d = refl
 
 -- ---- where it exceeds depth nowhere
 
-pub shallow_fronts : (depth : ℕ) (ts : List Lexeme) → ((i : ℕ) → i < length ts → nesting_at ts i ≤ℤ pos depth)
-    → (front others : List Lexeme) → ts ≡ front ++ others → nesting front ≤ℤ pos depth
-shallow_fronts depth ts h [] others e = nothing_nested depth
-shallow_fronts depth ts h (c ∷ cs) others e =
-    let less : length cs < length ts = omega (arith, ap length e, length-append (c ∷ cs) others) in
-    subst (λ (l : List Lexeme). nesting l ≤ℤ pos depth) (up_to ts (c ∷ cs) others (suc (length cs)) e refl) (h (length cs) less)
-
 pub fronts_shallow : (depth : ℕ) (ts : List Lexeme)
     → ((front others : List Lexeme) → ts ≡ front ++ others → nesting front ≤ℤ pos depth) → (i : ℕ) → i < length ts
     → nesting_at ts i ≤ℤ pos depth

@@ -2,11 +2,11 @@
 pub use Rattle.graphql_lexical.proofs.Answers.{finds_what_reads, misses_what_fails}
 pub use Rattle.graphql_lexical.proofs.CanonicalSizes.{has_canonical_sizes}
 pub use Rattle.graphql_lexical.proofs.Cuts.{cut_front, each_stands, leads_size, one_cut_or_break, reads_size, stands_size}
-pub use Rattle.graphql_lexical.proofs.DeepTokens.{closed_push, crossed, deep_count, one_deep, opened_push, opening_goes_on, opening_no_end, opens, take_next}
+pub use Rattle.graphql_lexical.proofs.DeepTokens.{closed_push, crossed, deep_count, one_deep, opened_push, opening_no_end, opens}
 pub use Rattle.graphql_lexical.proofs.Escapes.{counted_within, u_short}
 pub use Rattle.graphql_lexical.proofs.Ignored.{ignored_is_longest}
 pub use Rattle.graphql_lexical.proofs.Joints.{few_tokens}
-pub use Rattle.graphql_lexical.proofs.Depths.{deeper_after, after_deeper, before_is, up_to_token, shallow_fronts, fronts_shallow}
+pub use Rattle.graphql_lexical.proofs.Depths.{deeper_after, after_deeper, before_is, up_to_token, fronts_shallow}
 pub use Rattle.graphql_lexical.proofs.NumberParts.{float_same, integer_same, name_same}
 pub use Rattle.graphql_lexical.proofs.OneToken.{one_token, token_or_error}
 pub use Rattle.graphql_lexical.proofs.Places.{place_after, place_push, steps_by_characters}

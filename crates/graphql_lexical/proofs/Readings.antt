@@ -160,10 +160,6 @@ accepts_answer _ n rest kind e z = absurd (none-some kind e)
 
 -- ---- both ways
 
-some_read : (rest : List ℕ) (n : ℕ) (q : State) (kind : Kind) → Reached rest n q → accepts q ≡ Some kind → 0 < n
-some_read rest zero q kind h a = let e = same_Some Start q h.runs in absurd (none-some kind (ap accepts e ∙ a))
-some_read rest (suc n) q kind h a = omega arith
-
 finds_reads : (rest : List ℕ) (n : ℕ) (q : State) (f : Found) → Reached rest n q → Finds q n rest f
     → ReadsAt rest f.size f.kind f.text
 finds_reads rest n q f h g =

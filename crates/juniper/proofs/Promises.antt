@@ -126,10 +126,6 @@ refusal_in_text S source fault h = λ lexemes cut.
     (at, in_characters.0, in_characters.1)
 
 -- a lexer that was just made stands at the beginning
-pub cut_from_start : (state : LexerState) (source : List ℕ) (lexemes : List Lexeme) → state ≡ started source
-    → HasLeft state lexemes → Cut source lexemes
-cut_from_start state source lexemes e c = subst (λ (s : LexerState). HasLeft s lexemes) e c
-
 pub break_from_start : (state : LexerState) (source : List ℕ) (error : LexicalError) (at : Place)
     → state ≡ started source → BreaksOff state error at → Breaks source error at
 break_from_start state source error at e b = subst (λ (s : LexerState). BreaksOff s error at) e b

@@ -12,7 +12,7 @@ use Rattle.juniper_tokens.specs.Cursor.{EndsOnce}
 use Rattle.juniper_tokens.specs.Errors.{Error}
 use Rattle.juniper_tokens.specs.Nesting.{EndsAtNesting}
 use Rattle.juniper_tokens.specs.declared.span.Span as spans
-use Rattle.juniper.specs.Sinks.{StandInFront, Gains, GainsTree, GainsFront, GainsBeforeEnd}
+use Rattle.juniper.specs.Sinks.{StandInFront, Gains, GainsFront, GainsBeforeEnd}
 use Rattle.juniper.specs.device.Steps.{cursor}
 use Rattle.juniper.proofs.Readings.{definition_taken}
 

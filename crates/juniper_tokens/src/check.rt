@@ -21,8 +21,8 @@ use std::alloc::Global;
 /// Reads all tokens of a source within limits, and keeps none.
 ///
 /// Returns the error that `Parser::new_within` returns for the source and `most`, or else the span of the first token at
-/// which more than `depth` brackets are open, or None. A bracket is `(`, `[` or `{`. Takes no memory but for the words of
-/// an error.
+/// which more than `depth` brackets are open, or None. A bracket is `(`, `[` or `{`. Takes memory for the words of
+/// an error alone.
 pub fn check_tokens(
     alloc: Global,
     source: &str,

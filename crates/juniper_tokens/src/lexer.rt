@@ -10,7 +10,7 @@ ghost use Rattle.juniper_tokens.specs.LineTables.{lines_of};
 ghost use Rattle.juniper_tokens.specs.device.BytePlaces.{byte_place};
 ghost use Rattle.juniper_tokens.specs.device.LexingByScan.{past_ignored};
 ghost use Rattle.juniper_tokens.specs.device.LineSteps.{CountsLines, HasLines};
-ghost use Rattle.juniper_tokens.specs.device.Ranges.{TakesRange, TakesItem, TakesPlain, MayTake, IsRange, range_lexeme, range_or_none, range_steps};
+ghost use Rattle.juniper_tokens.specs.device.Ranges.{TakesRange, TakesItem, TakesPlain, TakesFrequent, IsRange, range_lexeme, range_or_none, range_steps};
 ghost use Rattle.juniper_tokens.specs.device.Scans.{Finds, IsPlain};
 ghost use Rattle.juniper_tokens.specs.device.Walks.{first_class, never_ignored};
 ghost use Rattle.juniper_tokens.specs.Tokens.{view_token};
@@ -237,20 +237,8 @@ impl<'a> Lexer<'a> {
         self.here = other.here;
     }
 
-    /// Skips ignored tokens, and takes the token after them if it is a plain one.
-    ///
-    /// Otherwise a token may begin at the lexer's position, and `scan` takes it.
-    #[inline(always)]
-    pub(crate) fn next_plain(&mut self) -> Option<TokenRange>
-        ensures source { self.new.source ≡ self.old.source }
-        ensures takes { MayTake self.old result self.new }
-        ensures ended { self.old.ended ≡ false → self.new.ended ≡ false }
-    {
-        let class = self.skip_ignored();
-        self.take_plain(class)
-    }
-
-    /// Takes the token that begins here, with a byte of this class, if it is a plain one.
+    /// Takes the token that begins here, with a byte of this class, if it is a plain one. Otherwise a token may begin here,
+    /// and `scan` takes it.
     #[inline(always)]
     pub(crate) fn take_plain(&mut self, class: ByteClass) -> Option<TokenRange>
         requires { class ≡ first_class (drop self.old.index self.old.source) }
@@ -300,15 +288,60 @@ impl<'a> Lexer<'a> {
         }
     }
 
+    /// Skips ignored tokens, and takes the token after them if it is a Name or a punctuator, which most are.
+    ///
+    /// Otherwise some ignored tokens may be left, and `scan_ahead` takes the next token.
+    #[inline(always)]
+    pub(crate) fn next_frequent(&mut self) -> Option<TokenRange>
+        ensures source { self.new.source ≡ self.old.source }
+        ensures takes { TakesFrequent self.old result self.new }
+        ensures ended { self.old.ended ≡ false → self.new.ended ≡ false }
+    {
+        let class = self.skip_blanks();
+        // Each has code of its own, which is small.
+        if class == ByteClass::NameStart {
+            return self.take_plain(ByteClass::NameStart);
+        }
+        if class == ByteClass::Punctuator {
+            return self.take_plain(ByteClass::Punctuator);
+        }
+        None
+    }
+
+    /// Skips ignored tokens, and takes what is there, which may be the last item: a token, or why there is none.
+    #[inline(always)]
+    pub(crate) fn scan_ahead(&mut self) -> Result<TokenRange, LexFailure>
+        ensures source { self.new.source ≡ self.old.source }
+        ensures takes { TakesItem (past_ignored self.old) result self.new }
+    {
+        let mut lexer = self.duplicate();
+        let item = lexer.next_of_any_class(Some(self.alloc));
+        *self = lexer;
+        item
+    }
+
+    // The same, out of the way. Without an allocator it takes no memory, as `scan_out_of_line`.
+    #[inline(never)]
+    fn next_of_any_class(&mut self, alloc: Option<Global>) -> Result<TokenRange, LexFailure>
+        ensures source { self.new.source ≡ self.old.source }
+        ensures takes { TakesItem (past_ignored self.old) result self.new }
+    {
+        let class = self.skip_ignored();
+        match self.take_plain(class) {
+            Some(range) => Ok(range),
+            None => self.scan_out_of_line(alloc),
+        }
+    }
+
     /// Takes the next token, which may be the last item, or returns why there is none.
     #[inline(always)]
     pub(crate) fn next_range(&mut self) -> Result<TokenRange, LexFailure>
         requires { self.old.ended ≡ false }
         ensures { range_steps self.old (Some result) self.new }
     {
-        match self.next_plain() {
+        match self.next_frequent() {
             Some(range) => Ok(range),
-            None => self.scan(),
+            None => self.scan_ahead(),
         }
     }
 
@@ -318,11 +351,11 @@ impl<'a> Lexer<'a> {
         requires { self.old.ended ≡ false }
         ensures { range_or_none self.old result self.new }
     {
-        match self.next_plain() {
+        match self.next_frequent() {
             Some(range) => Some(range),
             None => {
                 let mut lexer = self.duplicate();
-                let item = lexer.scan_out_of_line(None);
+                let item = lexer.next_of_any_class(None);
                 *self = lexer;
                 item.ok()
             }

@@ -368,7 +368,7 @@ fn gather(
     let start = lexer.duplicate();
     let mut lines = first_lines(&start)?;
     loop {
-        let pushed = match lexer.next_plain() {
+        let pushed = match lexer.next_frequent() {
             Some(range) => {
                 if ranges.len() >= most {
                     let span = lexer.duplicate().span_from(range.start.characters);
@@ -377,7 +377,7 @@ fn gather(
                 ranges.push(range)
             }
             None => {
-                let range = lexer.scan()?;
+                let range = lexer.scan_ahead()?;
                 if range.kind == Kind::EndOfFile {
                     if ranges.push(range).is_err() || lexer.count_lines(&mut lines).is_err() {
                         return Err(LimitedLexFailure::Lex(LexFailure::Memory));

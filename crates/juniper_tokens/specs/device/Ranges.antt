@@ -114,9 +114,10 @@ abbrev pub TakesPlain : LexerState → Option TokenRange → LexerState → Type
 TakesPlain s None t = t ≡ s
 TakesPlain s (Some range) t = TakesRange s range t
 
--- The lexer went over ignored tokens, and over the token after them or no further.
-abbrev pub MayTake : LexerState → Option TokenRange → LexerState → Type 0
-MayTake s range t = TakesPlain (past_ignored s) range t
+-- The lexer went over some ignored tokens, or over all of them and the token after them.
+abbrev pub TakesFrequent : LexerState → Option TokenRange → LexerState → Type 0
+TakesFrequent s None t = past_ignored t ≡ past_ignored s
+TakesFrequent s (Some range) t = TakesRange (past_ignored s) range t
 
 -- ---- cursors
 

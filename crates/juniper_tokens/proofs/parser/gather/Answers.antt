@@ -26,7 +26,7 @@ loop-range-init c = record {
 pub returns-then-len-most-clause-many : goal.returns-then-len-most-clause-many
 returns-then-len-most-clause-many c =
     let s = c.loop-range.lexer in
-    let u = c.next_plain.new.self in
+    let u = c.next_frequent.new.self in
     let r = c.in-Some.range in
     let step = plain_steps s u c.loop-range.invariant.going c.in-Some.ensures.source r c.in-Some.ensures.takes in
     let full : length c.loop-range.ranges.items ≡ c.args.most = omega (
@@ -43,19 +43,20 @@ returns-then-len-most-clause-many c =
 pub returns-then-len-most-clause-lexer : goal.returns-then-len-most-clause-lexer
 returns-then-len-most-clause-lexer c =
     let s = c.loop-range.lexer in
-    let step = plain_steps s c.next_plain.new.self c.loop-range.invariant.going c.in-Some.ensures.source c.in-Some.range
-    c.in-Some.ensures.takes in
-    gathered_later _ _ _ (ranges_more c.args.lexer.now c.loop-range.ranges.items s c.next_plain.new.self c.in-Some.range
-    c.loop-range.invariant.gathered step).gathered
+    let u = c.next_frequent.new.self in
+    let r = c.in-Some.range in
+    let step = plain_steps s u c.loop-range.invariant.going c.in-Some.ensures.source r c.in-Some.ensures.takes in
+    gathered_later _ _ _ (ranges_more c.args.lexer.now c.loop-range.ranges.items s u r c.loop-range.invariant.gathered
+    step).gathered
 
 pub returns-in_err-range-in-None-clause-fault : goal.returns-in_err-range-in-None-clause-fault
 returns-in_err-range-in-None-clause-fault c =
     let s = c.loop-range.lexer in
     let failed = c.in_err-range-in-None in
     let same = failed.ensures.source ∙ c.in-None.ensures.source in
-    let step = other_steps s c.scan.new.self c.loop-range.invariant.going same c.next_plain.new.self
+    let step = other_steps s c.scan_ahead.new.self c.loop-range.invariant.going same c.next_frequent.new.self
     (Err failed.field-0.0) c.in-None.ensures.takes failed.ensures.takes in
-    breaks_within c.args.lexer.now _ s c.scan.new.self c.loop-range.invariant.gathered failed.field-0.0 step _
+    breaks_within c.args.lexer.now _ s c.scan_ahead.new.self c.loop-range.invariant.gathered failed.field-0.0 step _
     c.from_residual-in_err-range-in-None.ensures.1
 
 pub returns-in_err-range-in-None-clause-few : goal.returns-in_err-range-in-None-clause-few
@@ -63,18 +64,18 @@ returns-in_err-range-in-None-clause-few c =
     let s = c.loop-range.lexer in
     let failed = c.in_err-range-in-None in
     let same = failed.ensures.source ∙ c.in-None.ensures.source in
-    let step = other_steps s c.scan.new.self c.loop-range.invariant.going same c.next_plain.new.self
+    let step = other_steps s c.scan_ahead.new.self c.loop-range.invariant.going same c.next_frequent.new.self
     (Err failed.field-0.0) c.in-None.ensures.takes failed.ensures.takes in
-    counted_before c.args.lexer.now _ s c.scan.new.self c.loop-range.invariant.gathered failed.field-0.0 step _
+    counted_before c.args.lexer.now _ s c.scan_ahead.new.self c.loop-range.invariant.gathered failed.field-0.0 step _
     c.from_residual-in_err-range-in-None.ensures.1 c.args.most c.loop-range.invariant.few
 
 pub returns-then-len-most-2-clause-many : goal.returns-then-len-most-2-clause-many
 returns-then-len-most-2-clause-many c =
     let s = c.loop-range.lexer in
-    let u = c.scan.new.self in
+    let u = c.scan_ahead.new.self in
     let r = c.in_ok-range-in-None.range in
     let same = c.in_ok-range-in-None.ensures.source ∙ c.in-None.ensures.source in
-    let step = other_steps s u c.loop-range.invariant.going same c.next_plain.new.self (Ok r) c.in-None.ensures.takes
+    let step = other_steps s u c.loop-range.invariant.going same c.next_frequent.new.self (Ok r) c.in-None.ensures.takes
     c.in_ok-range-in-None.ensures.takes in
     let full : length c.loop-range.ranges.items ≡ c.args.most = omega (
       arith,
@@ -93,40 +94,42 @@ returns-then-len-most-2-clause-lexer c =
     let s = c.loop-range.lexer in
     let r = c.in_ok-range-in-None.range in
     let same = c.in_ok-range-in-None.ensures.source ∙ c.in-None.ensures.source in
-    let step = other_steps s c.scan.new.self c.loop-range.invariant.going same c.next_plain.new.self (Ok r)
+    let step = other_steps s c.scan_ahead.new.self c.loop-range.invariant.going same c.next_frequent.new.self (Ok r)
     c.in-None.ensures.takes c.in_ok-range-in-None.ensures.takes in
-    gathered_later _ _ _ (ranges_more c.args.lexer.now c.loop-range.ranges.items s c.scan.new.self r
+    gathered_later _ _ _ (ranges_more c.args.lexer.now c.loop-range.ranges.items s c.scan_ahead.new.self r
     c.loop-range.invariant.gathered step).gathered
 
 pub returns-then-is_err-3-clause-lexer : goal.returns-then-is_err-3-clause-lexer
 returns-then-is_err-3-clause-lexer c =
     let s = c.loop-range.lexer in
     let going = c.loop-range.invariant.going in
-    elim c.match-next_plain.branch [
+    elim c.match-next_frequent.branch [
       | in-Some+else-len-most w ↦
-          let step = plain_steps s c.next_plain.new.self going w.in-Some.ensures.source w.in-Some.range
+          let step = plain_steps s c.next_frequent.new.self going w.in-Some.ensures.source w.in-Some.range
           w.in-Some.ensures.takes in
           rw w.lexer-is (gathered_later _ _ _ (ranges_more c.args.lexer.now c.loop-range.ranges.items s
-          c.next_plain.new.self w.in-Some.range c.loop-range.invariant.gathered step).gathered)
+          c.next_frequent.new.self w.in-Some.range c.loop-range.invariant.gathered step).gathered)
       | in-None+in_ok-range-in-None+else-eq+else-len-most-2 w ↦
           let same = w.in_ok-range-in-None.ensures.source ∙ w.in-None.ensures.source in
-          let step = other_steps s w.scan.new.self going same c.next_plain.new.self
+          let step = other_steps s w.scan_ahead.new.self going same c.next_frequent.new.self
           (Ok w.in_ok-range-in-None.range) w.in-None.ensures.takes w.in_ok-range-in-None.ensures.takes in
           rw w.lexer-is (gathered_later _ _ _ (ranges_more c.args.lexer.now c.loop-range.ranges.items s
-          w.scan.new.self w.in_ok-range-in-None.range c.loop-range.invariant.gathered step).gathered)
+          w.scan_ahead.new.self w.in_ok-range-in-None.range c.loop-range.invariant.gathered step).gathered)
     ]
 
 pub loop-range-smaller : goal.loop-range-smaller
 loop-range-smaller c =
     let s = c.loop-range.lexer in
     let going = c.loop-range.invariant.going in
-    elim c.match-next_plain.branch [
-      | in-Some+else-len-most w ↦ rw w.lexer-is (ranges_fewer s (Ok w.in-Some.range) c.next_plain.new.self
-          (plain_steps s c.next_plain.new.self going w.in-Some.ensures.source w.in-Some.range w.in-Some.ensures.takes))
+    elim c.match-next_frequent.branch [
+      | in-Some+else-len-most w ↦
+          let u = c.next_frequent.new.self in
+          rw w.lexer-is (ranges_fewer s (Ok w.in-Some.range) u
+          (plain_steps s u going w.in-Some.ensures.source w.in-Some.range w.in-Some.ensures.takes))
       | in-None+in_ok-range-in-None+else-eq+else-len-most-2 w ↦
           let same = w.in_ok-range-in-None.ensures.source ∙ w.in-None.ensures.source in
-          rw w.lexer-is (ranges_fewer s (Ok w.in_ok-range-in-None.range) w.scan.new.self
-          (other_steps s w.scan.new.self going same c.next_plain.new.self
+          rw w.lexer-is (ranges_fewer s (Ok w.in_ok-range-in-None.range) w.scan_ahead.new.self
+          (other_steps s w.scan_ahead.new.self going same c.next_frequent.new.self
           (Ok w.in_ok-range-in-None.range) w.in-None.ensures.takes w.in_ok-range-in-None.ensures.takes))
     ]
 
@@ -134,19 +137,19 @@ pub loop-range-preserved : goal.loop-range-preserved
 loop-range-preserved c =
     let s = c.loop-range.lexer in
     let going = c.loop-range.invariant.going in
-    let kept : GatheredRanges c.args.lexer.now c.match-next_plain.ranges.items c.match-next_plain.lexer
-    × (length c.match-next_plain.ranges.items ≤ c.args.most) =
-    elim c.match-next_plain.branch [
+    let kept : GatheredRanges c.args.lexer.now c.match-next_frequent.ranges.items c.match-next_frequent.lexer
+    × (length c.match-next_frequent.ranges.items ≤ c.args.most) =
+    elim c.match-next_frequent.branch [
       | in-Some+else-len-most w ↦
           let pushed : w.push-pushed.new.self.items ≡ c.loop-range.ranges.items ++ w.in-Some.range ∷ [] =
           search rules in
           let more : length w.push-pushed.new.self.items ≡ length c.loop-range.ranges.items + 1 =
           ap length pushed ∙ length-append c.loop-range.ranges.items (w.in-Some.range ∷ []) in
-          let step = plain_steps s c.next_plain.new.self going w.in-Some.ensures.source w.in-Some.range
+          let step = plain_steps s c.next_frequent.new.self going w.in-Some.ensures.source w.in-Some.range
           w.in-Some.ensures.takes in
           rw (w.lexer-is, w.ranges-is) (
-            subst (λ rs. GatheredRanges c.args.lexer.now rs c.next_plain.new.self) (sym pushed)
-                (ranges_more c.args.lexer.now c.loop-range.ranges.items s c.next_plain.new.self w.in-Some.range
+            subst (λ rs. GatheredRanges c.args.lexer.now rs c.next_frequent.new.self) (sym pushed)
+                (ranges_more c.args.lexer.now c.loop-range.ranges.items s c.next_frequent.new.self w.in-Some.range
                 c.loop-range.invariant.gathered step),
             omega (arith, more, w.if-len-most.false, w.len.ensures),
           )
@@ -156,17 +159,17 @@ loop-range-preserved c =
           let more : length w.push-pushed-in-None.new.self.items ≡ length c.loop-range.ranges.items + 1 =
           ap length pushed ∙ length-append c.loop-range.ranges.items (w.in_ok-range-in-None.range ∷ []) in
           let same = w.in_ok-range-in-None.ensures.source ∙ w.in-None.ensures.source in
-          let step = other_steps s w.scan.new.self going same c.next_plain.new.self
+          let step = other_steps s w.scan_ahead.new.self going same c.next_frequent.new.self
           (Ok w.in_ok-range-in-None.range) w.in-None.ensures.takes w.in_ok-range-in-None.ensures.takes in
           rw (w.lexer-is, w.ranges-is) (
-            subst (λ rs. GatheredRanges c.args.lexer.now rs w.scan.new.self) (sym pushed)
-                (ranges_more c.args.lexer.now c.loop-range.ranges.items s w.scan.new.self
+            subst (λ rs. GatheredRanges c.args.lexer.now rs w.scan_ahead.new.self) (sym pushed)
+                (ranges_more c.args.lexer.now c.loop-range.ranges.items s w.scan_ahead.new.self
                 w.in_ok-range-in-None.range c.loop-range.invariant.gathered step),
             omega (arith, more, w.if-len-most-2.false, w.len-in-None.ensures),
           )
     ] in
-    let goes_on : c.match-next_plain.lexer.ended ≡ false =
-    elim c.match-next_plain.branch [
+    let goes_on : c.match-next_frequent.lexer.ended ≡ false =
+    elim c.match-next_frequent.branch [
       | in-Some+else-len-most w ↦ rw w.lexer-is (w.in-Some.ensures.ended going)
       | in-None+in_ok-range-in-None+else-eq+else-len-most-2 w ↦
           let other : same_kind w.in_ok-range-in-None.range.kind EndOfFile ≡ false = search rules in
@@ -178,13 +181,13 @@ pub returns-in-Ok : goal.returns-in-Ok
 returns-in-Ok c =
     let s = c.loop-range.lexer in
     let same = c.in_ok-range-in-None.ensures.source ∙ c.in-None.ensures.source in
-    let step = other_steps s c.scan.new.self c.loop-range.invariant.going same c.next_plain.new.self
+    let step = other_steps s c.scan_ahead.new.self c.loop-range.invariant.going same c.next_frequent.new.self
     (Ok c.in_ok-range-in-None.range) c.in-None.ensures.takes c.in_ok-range-in-None.ensures.takes in
     let pushed : c.push.new.self.items ≡ c.loop-range.ranges.items ++ c.in_ok-range-in-None.range ∷ [] = search rules in
     let is_end : same_kind c.in_ok-range-in-None.range.kind EndOfFile ≡ true = search rules in
-    let all : GatheredRanges c.args.lexer.now c.push.new.self.items c.scan.new.self =
-    subst (λ rs. GatheredRanges c.args.lexer.now rs c.scan.new.self) (sym pushed)
-    (ranges_more c.args.lexer.now c.loop-range.ranges.items s c.scan.new.self
+    let all : GatheredRanges c.args.lexer.now c.push.new.self.items c.scan_ahead.new.self =
+    subst (λ rs. GatheredRanges c.args.lexer.now rs c.scan_ahead.new.self) (sym pushed)
+    (ranges_more c.args.lexer.now c.loop-range.ranges.items s c.scan_ahead.new.self
     c.in_ok-range-in-None.range c.loop-range.invariant.gathered step) in
     let ended = c.in_ok-range-in-None.ensures.takes.ends ∙ is_end in
     let cut = gathered_cut _ _ _ all.gathered ended in
