@@ -10,12 +10,12 @@ GUESS = "what most inputs need; a list that is full requests more"
 
 # file, function: each request for memory of a size, as `sizes` writes it, and what its size is made of.
 SIZES = {
-    ("juniper/src/parser/lists.rt", "grow"): [
+    ("juniper_parser/src/parser/lists.rt", "grow"): [
         ("items.reserve_exact(expected) | if items.is_empty() {", GUESS),
         ("items.reserve(1)", ONE),
     ],
-    ("juniper/src/parser/lists.rt", "expected"): [("if is_last { 1 } else { FEW }", GUESS)],
-    ("juniper/src/parser/selection.rt", "expected_selections"): [
+    ("juniper_parser/src/parser/lists.rt", "expected"): [("if is_last { 1 } else { FEW }", GUESS)],
+    ("juniper_parser/src/parser/selection.rt", "expected_selections"): [
         ("if next_is(tokens, Kind::CurlyClose) { 1 } else if tokens.expected() < MANY_TOKENS { 3 } else { 6 }", GUESS)
     ],
     ("juniper_answers/src/copy.rt", "copy_items"): [("Vec::with_capacity(alloc, items.len())", EACH)],

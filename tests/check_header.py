@@ -116,7 +116,7 @@ check("kinds of errors", enum("firthnapkin_error_kind"), {f"ERROR_{word}": numbe
 details["NONE"] = details.pop("NO_DETAIL")
 check("details", enum("firthnapkin_error_detail"), {f"DETAIL_{word}": number for word, number in details.items()})
 check("the largest depth", defined("FIRTHNAPKIN_MAX_DEPTH"), re.search(r"const MAX_DEPTH: u32 = (\d+);", source("limits"))[1])
-default = re.search(r"const DEFAULT_DEPTH: usize = (\d+);", read("crates/juniper/src/parser/document/limited.rt"))[1]
+default = re.search(r"const DEFAULT_DEPTH: usize = (\d+);", read("crates/juniper_documents/src/document/limited.rt"))[1]
 # In the words after the first two 0 is no limit.
 others = ["0" for field, _ in fields_of("Limits", source("limits"))[2:-1]]
 check("the default limits", defined("FIRTHNAPKIN_LIMITS_DEFAULT"), f"{{{', '.join([default, 'UINT32_MAX', *others, '{0}'])}}}")

@@ -5,9 +5,9 @@ use Rattle.graphql_lexical.specs.Place.{Span}
 use Rattle.graphql_grammar.specs.Tree.{Definition}
 use Rattle.juniper_tokens.specs.Errors.{Fault}
 use Rattle.juniper_values.specs.Scalar.{Content}
-use Rattle.juniper.specs.Scalars.{default_scalars}
-use Rattle.juniper.specs.Promise.{HasTree, IsRefusal}
-use Rattle.juniper.specs.Within.{HasTooDeep, HasTreeWithin, IsRefusedWithin, IsNestedTooDeep, HasOneResult}
+use Rattle.juniper_tree.specs.Scalars.{default_scalars}
+use Rattle.juniper_parser.specs.Promise.{HasTree, IsRefusal}
+use Rattle.juniper_documents.specs.Within.{HasTooDeep, HasTreeWithin, IsRefusedWithin, IsNestedTooDeep, HasOneResult}
 use Rattle.streams.proofs.Public.{utf8_or_not}
 use Rattle.gqlcheck_report.specs.Lines.{document_lines}
 use Rattle.gqlcheck_report.specs.Report.{Report, OneReport, fault_line, deep_line, limit}

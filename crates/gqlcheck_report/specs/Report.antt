@@ -5,9 +5,9 @@ use Rattle.juniper_tokens.specs.Positions.{position_text}
 use Rattle.graphql_grammar.specs.Tree.{Definition}
 use Rattle.juniper_tokens.specs.Errors.{Fault, error_text}
 use Rattle.juniper_values.specs.Scalar.{Content}
-use Rattle.juniper.specs.Scalars.{default_scalars}
-use Rattle.juniper.specs.Promise.{HasTree, IsRefusal}
-use Rattle.juniper.specs.Within.{HasTooDeep, IsWithin}
+use Rattle.juniper_tree.specs.Scalars.{default_scalars}
+use Rattle.juniper_parser.specs.Promise.{HasTree, IsRefusal}
+use Rattle.juniper_documents.specs.Within.{HasTooDeep, IsWithin}
 use Rattle.streams.specs.Reports.{HasOneReport}
 use Rattle.gqlcheck_report.specs.Lines.{document_lines}
 use Rattle.gqlcheck_report.specs.declared.report.RunEnd.{RunEnd}

@@ -3,12 +3,13 @@
 
 ghost use Rattle.std.specs.Prelude.{◌≡◌, ◌∷◌, ◌++◌, OnOk, IfOk, map, chars, string_bytes, encode_utf8_all};
 ghost use Rattle.graphql_nodes.specs.Types.{type_text};
-ghost use Rattle.juniper.specs.View.{view_definition, view_type};
+ghost use Rattle.juniper_tree.specs.View.{view_definition, view_type};
 ghost use Rattle.juniper_nodes.specs.NodeViews.{view_node};
 ghost use Rattle.gqlcheck_report.specs.Lines.{place_text, label_text, node_line, document_lines};
 
-use juniper::{Definition, ScalarValue, Type};
 use juniper_nodes::{Label, Node, NodeKind, document_nodes};
+use juniper_tree::Definition;
+use juniper_values::{ScalarValue, Type};
 use std::alloc::{AllocError, Global};
 
 /// The lines of a document.

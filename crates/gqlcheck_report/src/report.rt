@@ -7,11 +7,10 @@ ghost use Rattle.juniper_tokens.specs.Spans.{view_span};
 ghost use Rattle.gqlcheck_report.specs.Report.{Report, OneReport, IsReportEnd, fault_line, deep_line};
 
 use crate::lines::document_text;
-use juniper::laws::{document_or_fault, one_answer_within, one_too_deep};
-use juniper::{
-    DEFAULT_DEPTH, DefaultScalarValue, DepthFailure, ParseError, ParseFailure, Span, Spanning,
-    parse_document_source_within,
-};
+use juniper_documents::laws::{document_or_fault, one_answer_within, one_too_deep};
+use juniper_documents::{DEFAULT_DEPTH, DepthFailure, parse_document_source_within};
+use juniper_tokens::{ParseError, ParseFailure, Span, Spanning};
+use juniper_values::DefaultScalarValue;
 use std::alloc::{AllocError, Global};
 use std::io::{Read, Write};
 use streams::{ReportEnd, Stop, Watched};

@@ -5,7 +5,7 @@ ghost use Rattle.graphql_lexical.specs.Place as places;
 ghost use Rattle.graphql_lexical.specs.Kinds.{LexicalError};
 ghost use Rattle.graphql_lexical.specs.Canonical.{canonical};
 ghost use Rattle.graphql_lexical.specs.Cutting.{Lexeme, Breaks};
-ghost use Rattle.juniper.specs.Promise.{lexical_fault};
+ghost use Rattle.juniper_parser.specs.Promise.{lexical_fault};
 ghost use Rattle.juniper_flat.specs.Faults.{written_fault};
 ghost use Rattle.juniper_flat.specs.Answers.{Begins};
 ghost use Rattle.juniper_flat.specs.Tokens.{HasTokens};

@@ -9,7 +9,7 @@ use Rattle.graphql_grammar.specs.Tokens.{Word}
 use Rattle.graphql_grammar.specs.Tree as tree
 use Rattle.graphql_grammar.specs.Tree.{Arguments, Directives, Selection, Selections, selections_of, OptionalSelections}
 use Rattle.graphql_grammar.specs.Tree.{absent, present, Variables}
-use Rattle.juniper.specs.Building.{BuildsEach, BuildsOptional}
+use Rattle.juniper_parser.specs.Building.{BuildsEach, BuildsOptional}
 use Rattle.juniper_tokens.specs.Spans.{view_span}
 use Rattle.juniper_tokens.specs.declared.span.Span as code
 use Rattle.juniper_values.specs.Scalar.{Content}

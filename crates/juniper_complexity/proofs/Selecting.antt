@@ -1,9 +1,9 @@
 -- What selections in a row count and spread.
 use Rattle.std.proofs.Common.{◌≡◌, ◌<◌, ◌+◌, ℕ, List, [], ◌∷◌, ◌++◌, length, take, get_or, ap, sym, ◌∙◌}
 use Rattle.std.proofs.Common.{append_assoc, append-nil, Option, Some, None}
-use Rattle.juniper.specs.declared.tree.ast.Selection.{Selection}
+use Rattle.juniper_tree.specs.declared.ast.Selection.{Selection}
 use Rattle.std.specs.Global.{Vec}
-use Rattle.juniper.specs.View.{view_selection, view_selections, view_set}
+use Rattle.juniper_tree.specs.View.{view_selection, view_selections, view_set}
 use Rattle.juniper_values.specs.Scalar.{Content}
 use Rattle.juniper_outlines.specs.Complexities.{plus}
 use Rattle.juniper_complexity.specs.Gathered.{Gathers, GathersSelection}

@@ -5,9 +5,9 @@ use Rattle.std.proofs.lemmas.List.{take_all}
 use Rattle.std.specs.Borrow.{Bor}
 use Rattle.graphql_grammar.specs.Tree as tree
 use Rattle.graphql_grammar.specs.Tree.{Variables}
-use Rattle.juniper.specs.Building.{BuildsEach, BuildsOptional}
-use Rattle.juniper.specs.View.{view_directives, view_variable}
-use Rattle.juniper.specs.declared.tree.ast.VariableDefinition.{VariableDefinition}
+use Rattle.juniper_parser.specs.Building.{BuildsEach, BuildsOptional}
+use Rattle.juniper_tree.specs.View.{view_directives, view_variable}
+use Rattle.juniper_tree.specs.declared.ast.VariableDefinition.{VariableDefinition}
 use Rattle.juniper_tokens.specs.declared.span.Spanning.{Spanning}
 use Rattle.juniper_values.specs.Scalar.{Content}
 use Rattle.juniper_outlines.specs.Complexities.{nothing, plus}

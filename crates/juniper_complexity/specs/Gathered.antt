@@ -5,7 +5,7 @@ use Rattle.graphql_grammar.specs.Tokens.{Text, Word}
 use Rattle.graphql_grammar.specs.Tree as tree
 use Rattle.graphql_grammar.specs.Tree.{Directives, VariableDefinition, Variables, Selections, OptionalSelections}
 use Rattle.graphql_grammar.specs.Tree.{Definition}
-use Rattle.juniper.specs.Building.{BuildsEach, BuildsList, BuildsOptional, BuildsOptionalSet, BuildsSet}
+use Rattle.juniper_parser.specs.Building.{BuildsEach, BuildsList, BuildsOptional, BuildsOptionalSet, BuildsSet}
 use Rattle.juniper_tokens.specs.Spans.{view_span}
 use Rattle.juniper_values.specs.Scalar.{Content}
 use Rattle.juniper_outlines.specs.Complexities.{nothing, plus, capped, capped_complexity}

@@ -1,11 +1,12 @@
 //! The fragments of a document, by their names.
 ghost use Rattle.std.specs.Prelude.{IfOk, map};
-ghost use Rattle.juniper.specs.View.{view_definition};
+ghost use Rattle.juniper_tree.specs.View.{view_definition};
 ghost use Rattle.juniper_outlines.specs.Names.{Knows};
 ghost use Rattle.juniper_complexity.specs.Parts.{fragment_at};
 
-use juniper::{Definition, ScalarValue};
 use juniper_outlines::names::put;
+use juniper_tree::Definition;
+use juniper_values::ScalarValue;
 use std::alloc::{AllocError, Global};
 use std::collections::BTreeMap;
 

@@ -2,16 +2,17 @@
 ghost use Rattle.std.specs.Prelude.{IfOk, List, map};
 ghost use Rattle.graphql_grammar.specs.Tree.{Definition as Seen};
 ghost use Rattle.juniper_values.specs.Scalar.{Content};
-ghost use Rattle.juniper.specs.View.{view_definition};
+ghost use Rattle.juniper_tree.specs.View.{view_definition};
 ghost use Rattle.juniper_complexity.specs.Faults.{OperationsHave, FailsWithFirstFault};
 ghost use Rattle.juniper_complexity.specs.Gathered.{AreGathered};
 
 use crate::tree_outlines::tree_outlines;
-use juniper::{Definition, ScalarValue};
 use juniper_outlines::{
     ComplexityFailure, DefinitionOutline, OperationComplexity, have_no_spreads,
     outlined_complexities, own_complexities,
 };
+use juniper_tree::Definition;
+use juniper_values::ScalarValue;
 use std::alloc::Global;
 
 /// Returns the complexity of each operation of a document, in the order of the text, with every fragment spread expanded

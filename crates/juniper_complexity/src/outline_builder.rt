@@ -1,13 +1,14 @@
 //! The outlines of a document's definitions, gathered while it is parsed.
 ghost use Rattle.std.specs.Prelude.{◌≡◌, ◌++◌, ◌∷◌, [], List, OnOk, option_map};
-ghost use Rattle.juniper.specs.View.{view_word};
+ghost use Rattle.juniper_tree.specs.View.{view_word};
 ghost use Rattle.juniper_outlines.specs.Complexities.{capped_complexity};
 ghost use Rattle.juniper_outlines.specs.Sums.{plus_capped};
 ghost use Rattle.juniper_outlines.specs.declared.outline.NamedSpread.{NamedSpread as Spread};
 ghost use Rattle.juniper_complexity.specs.Gathered.{Begins, OpensField, OpensSpread, counted_directives, outlines_in};
 
-use juniper::{Gather, Span, Spanning};
 use juniper_outlines::{Complexity, DefinitionOutline, NamedSpread};
+use juniper_parser::Gather;
+use juniper_tokens::{Span, Spanning};
 use std::alloc::{AllocError, Global};
 use std::mem;
 

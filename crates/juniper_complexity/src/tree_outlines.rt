@@ -1,18 +1,20 @@
 //! The outlines of a tree's definitions, gathered as they are while a document is parsed.
 ghost use Rattle.std.specs.Prelude.{◌≡◌, [], OnOk, IfOk, map, option_map};
-ghost use Rattle.juniper.specs.View.{view_directives, view_variable, view_variables, view_selection, view_selections, view_field, view_inline, view_definition};
+ghost use Rattle.juniper_tree.specs.View.{view_directives, view_variable, view_variables, view_selection, view_selections, view_field, view_inline, view_definition};
 ghost use Rattle.juniper_complexity.specs.Gathered.{AreGathered, Gathers, GathersSelection, IsGathered, counted_directives};
 ghost use Rattle.juniper_complexity.specs.Parts.{directives_complexity, directives_of_variables, only_directives, spreads_of_all, variable_directive_count};
 ghost use Rattle.juniper_complexity.specs.device.BySpreads.{own_of_all};
 ghost use Rattle.juniper_complexity.specs.device.Outlines.{view_spread};
 
 use crate::outline_builder::{OutlineBuilder, PartCount};
-use juniper::laws::selections_are_seen;
-use juniper::{
-    Definition, Directive, Field, FragmentSpread, InlineFragment, ScalarValue, Selection, Spanning,
-    VariableDefinition, VariableDefinitions,
-};
 use juniper_outlines::DefinitionOutline;
+use juniper_tokens::Spanning;
+use juniper_tree::laws::selections_are_seen;
+use juniper_tree::{
+    Definition, Directive, Field, FragmentSpread, InlineFragment, Selection, VariableDefinition,
+    VariableDefinitions,
+};
+use juniper_values::ScalarValue;
 use std::alloc::{AllocError, Global};
 
 // The number of directives.

@@ -5,7 +5,7 @@ use Rattle.graphql_grammar.specs.Tree.{Directives, Selection, Selections, Option
 use Rattle.graphql_grammar.specs.Tree.{Definition}
 use Rattle.graphql_nodes.specs.Nodes.{Node, if_present, each, directive_nodes, directives_nodes, selection_nodes}
 use Rattle.graphql_nodes.specs.Nodes.{selections_nodes, optional_nodes, definition_nodes}
-use Rattle.juniper.specs.Building.{BuildsEach, BuildsOptional, BuildsOptionalSet, BuildsSet}
+use Rattle.juniper_parser.specs.Building.{BuildsEach, BuildsOptional, BuildsOptionalSet, BuildsSet}
 use Rattle.juniper_complexity.specs.Gathered.{AreGathered, Keeps, KeepsDirectives, gathered}
 use Rattle.juniper_complexity.specs.declared.outline_builder.PartCount.{PartCount}
 use Rattle.juniper_outlines.specs.declared.outline.DefinitionOutline.{DefinitionOutline}

@@ -20,8 +20,8 @@ use Rattle.graphql_nodes.proofs.Public.{few_nodes_of_source, document_forest, de
 use Rattle.juniper_tokens.specs.Errors as errors
 use Rattle.juniper_tokens.proofs.Public.{chars_within}
 use Rattle.juniper_values.specs.Scalar.{Content}
-use Rattle.juniper.specs.Promise.{HasTree, IsRefusal, lexical, grammatical}
-use Rattle.juniper.specs.Within.{HasTooDeep}
+use Rattle.juniper_parser.specs.Promise.{HasTree, IsRefusal, lexical, grammatical}
+use Rattle.juniper_documents.specs.Within.{HasTooDeep}
 use Rattle.juniper_nodes.specs.NodeTexts.{text_of_node, node_texts}
 use Rattle.juniper_flat.specs.Nodes.{byte_count}
 use Rattle.juniper_flat.specs.Fits.{PlaceFits, SpanFits, NodesFit}

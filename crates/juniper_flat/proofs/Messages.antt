@@ -19,7 +19,7 @@ use Rattle.graphql_grammar.specs.Faults.{Begins, NamedError, end as ends_here, o
 use Rattle.graphql_grammar.specs.Grammar.{IsScalarKind}
 use Rattle.juniper_tokens.specs.Errors as errors
 use Rattle.juniper_tokens.specs.Errors.{Error, error_text}
-use Rattle.juniper.specs.Promise.{IsRefusal, lexical_fault, lexical, grammatical, unexpected}
+use Rattle.juniper_parser.specs.Promise.{IsRefusal, lexical_fault, lexical, grammatical, unexpected}
 use Rattle.juniper_values.specs.Default.{default_reading, string_reading}
 use Rattle.juniper_values.specs.Scalar.{Reading}
 use Rattle.juniper_flat.specs.Answers.{scalars as all_scalars}

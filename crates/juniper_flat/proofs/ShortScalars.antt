@@ -9,7 +9,7 @@ use Rattle.graphql_nodes.specs.Nodes.{document_nodes}
 use Rattle.juniper_values.specs.Text.{Text}
 use Rattle.juniper_values.specs.Scalar.{Content, boolean, Reading}
 use Rattle.juniper_values.specs.Default.{default_reading}
-use Rattle.juniper.specs.Scalars.{stated}
+use Rattle.juniper_tree.specs.Scalars.{stated}
 use Rattle.juniper_nodes.specs.Literal.{of_large_int, of_float, of_block}
 use Rattle.juniper_nodes.specs.NodeTexts.{node_texts}
 use Rattle.juniper_nodes.proofs.Public.{MakesShort, ReadsShort, without_text, string_kept, of_block_means, default_is_short, texts_are_short}

@@ -7,9 +7,9 @@ use Rattle.graphql_nodes.specs.Nodes.{document_nodes}
 use Rattle.juniper_tokens.specs.Errors as errors
 use Rattle.juniper_tokens.specs.Counting.{HasFew, HasMore}
 use Rattle.juniper_values.specs.Scalar.{Content, boolean}
-use Rattle.juniper.specs.Scalars.{stated}
-use Rattle.juniper.specs.Promise.{HasTree, IsRefusal}
-use Rattle.juniper.specs.Within.{HasTooDeep, IsWithin}
+use Rattle.juniper_tree.specs.Scalars.{stated}
+use Rattle.juniper_parser.specs.Promise.{HasTree, IsRefusal}
+use Rattle.juniper_documents.specs.Within.{HasTooDeep, IsWithin}
 use Rattle.juniper_nodes.specs.NodeTexts.{node_texts}
 use Rattle.juniper_flat.specs.Nodes.{written_nodes}
 use Rattle.juniper_flat.specs.Scalars.{scalar_reading}

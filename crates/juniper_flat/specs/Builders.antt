@@ -7,9 +7,10 @@ use Rattle.graphql_grammar.specs.Tree.{Value}
 use Rattle.graphql_nodes.specs.Nodes.{Node, Label, Named, Typed, over, if_present, alias_nodes, value_nodes}
 use Rattle.graphql_nodes.specs.declared.kind.NodeKind.{NodeKind}
 use Rattle.graphql_nodes.specs.declared.kind.NodeKind.TheVariants as kind
-use Rattle.juniper.specs.Building.{FailsReading, Opened, a_list, an_object, an_object_field, some_arguments}
-use Rattle.juniper.specs.Building.{an_argument, a_directive, a_field, a_spread, an_inline_fragment, some_variables}
-use Rattle.juniper.specs.Building.{a_variable, an_operation, a_fragment}
+use Rattle.juniper_parser.specs.Building.{FailsReading, Opened, a_list, an_object, an_object_field, some_arguments}
+use Rattle.juniper_parser.specs.Building.{an_argument, a_directive, a_field, a_spread}
+use Rattle.juniper_parser.specs.Building.{an_inline_fragment, some_variables}
+use Rattle.juniper_parser.specs.Building.{a_variable, an_operation, a_fragment}
 use Rattle.std.specs.Option.{unwrap_or}
 use Rattle.juniper_values.specs.Text.{Text}
 use Rattle.juniper_values.specs.Scalar.{Content, Reading}

@@ -5,7 +5,7 @@ use Rattle.graphql_grammar.specs.Tree.{Value, Arguments, Directives, VariableDef
 use Rattle.graphql_grammar.specs.Tree.{Selections, OptionalSelections, Definition}
 use Rattle.graphql_nodes.specs.Nodes.{Node, value_nodes, arguments_nodes, directive_nodes, variable_nodes}
 use Rattle.graphql_nodes.specs.Nodes.{variables_nodes, selection_nodes, definition_nodes, document_nodes}
-use Rattle.juniper.specs.Building.{BuildsList, BuildsOptional, BuildsOptionalSet, BuildsSet, Opened}
+use Rattle.juniper_parser.specs.Building.{BuildsList, BuildsOptional, BuildsOptionalSet, BuildsSet, Opened}
 use Rattle.juniper_complexity.specs.Gathered.{GathersVariables, gathered}
 use Rattle.juniper_complexity.specs.declared.outline_builder.PartCount.{PartCount}
 use Rattle.juniper_outlines.specs.declared.outline.DefinitionOutline.{DefinitionOutline}

@@ -4,7 +4,7 @@ use Rattle.graphql_lexical.specs.Place.{Place}
 use Rattle.graphql_lexical.specs.Kinds.{LexicalError}
 use Rattle.graphql_lexical.specs.Canonical.{canonical}
 use Rattle.graphql_lexical.specs.Cutting.{Lexeme, Breaks}
-use Rattle.juniper.specs.Promise.{lexical_fault}
+use Rattle.juniper_parser.specs.Promise.{lexical_fault}
 use Rattle.juniper_flat.specs.Faults.{written_fault}
 use Rattle.juniper_flat.specs.Sources.{IsUnread}
 use Rattle.juniper_flat.specs.declared.source.Unread.{Unread}

@@ -3,7 +3,7 @@ use Rattle.std.specs.Prelude.{◌≡◌, ◌<◌, ◌≤◌, ◌+◌, ◌^◌, �
 use Rattle.graphql_lexical.specs.Place.{Place, Span}
 use Rattle.graphql_lexical.specs.Kinds.{LexicalError}
 use Rattle.graphql_lexical.specs.Cutting.{Lexeme, Leads}
-use Rattle.juniper.specs.Promise.{lexical_fault}
+use Rattle.juniper_parser.specs.Promise.{lexical_fault}
 use Rattle.juniper_flat.specs.Faults.{written_fault, many_fault}
 use Rattle.juniper_flat.specs.Answers.{Fills}
 use Rattle.juniper_tokens.specs.Counting.{HasMore}

@@ -7,7 +7,7 @@ use Rattle.graphql_lexical.specs.Characters.{Text}
 use Rattle.graphql_lexical.specs.Place.{Span}
 use Rattle.juniper_tokens.specs.Errors as errors
 use Rattle.juniper_tokens.specs.Errors.{error_text}
-use Rattle.juniper.specs.Promise.{IsRefusal}
+use Rattle.juniper_parser.specs.Promise.{IsRefusal}
 use Rattle.juniper_flat.specs.Answers.{scalars}
 use Rattle.juniper_flat.specs.Faults.{written_fault, deep_fault, many_fault, unknown_fault, cycle_fault}
 use Rattle.juniper_flat.specs.Sources.{IsUnread}

@@ -2,9 +2,11 @@
 use Rattle.std.specs.Prelude.{◌≡◌, ℕ, Option}
 use Rattle.graphql_grammar.specs.Tokens.{Word}
 use Rattle.graphql_grammar.specs.Tree.{Definition}
-use Rattle.juniper.specs.Building.{Opened, a_list, an_object, an_object_field, some_arguments, an_argument, a_directive}
-use Rattle.juniper.specs.Building.{a_field, a_spread, an_inline_fragment, some_variables, a_variable, an_operation}
-use Rattle.juniper.specs.Building.{a_fragment}
+use Rattle.juniper_parser.specs.Building.{Opened, a_list, an_object, an_object_field, some_arguments}
+use Rattle.juniper_parser.specs.Building.{an_argument, a_directive}
+use Rattle.juniper_parser.specs.Building.{a_field, a_spread, an_inline_fragment, some_variables}
+use Rattle.juniper_parser.specs.Building.{a_variable, an_operation}
+use Rattle.juniper_parser.specs.Building.{a_fragment}
 use Rattle.juniper_complexity.specs.Gathered.{IsGathered}
 use Rattle.juniper_outlines.specs.declared.outline.DefinitionOutline.{DefinitionOutline}
 use Rattle.juniper_values.specs.Scalar.{Content}

@@ -1,7 +1,7 @@
 //! The nodes of a source, written into buffers while it is parsed.
 ghost use Rattle.std.specs.Prelude.{◌≡◌, ◌∷◌, [], ℕ, List, OnOk, option_map, set, encode_utf8_all};
 ghost use Rattle.graphql_nodes.specs.Nodes.{Unnamed, alias_nodes, if_present, over};
-ghost use Rattle.juniper.specs.View.{view_type, view_word};
+ghost use Rattle.juniper_tree.specs.View.{view_type, view_word};
 ghost use Rattle.juniper_tokens.specs.Spans.{view_span};
 ghost use Rattle.juniper_tokens.specs.Tokens.{scalar_kind, scalar_text};
 ghost use Rattle.juniper_nodes.specs.Literal.{str_in};
@@ -23,9 +23,11 @@ use crate::flat::Lengths;
 use crate::form::{ScalarForm, form_of};
 use crate::node::{Node, written_node};
 use crate::scalar::{SourceScalar, read_int};
-use juniper::{ParseScalarValue, ReadFailure, ScalarToken, ScalarValue, Span, Spanning, Type};
 use juniper_nodes::{Label, NodeKind};
-use juniper_values::{write_block_string_value, write_string_value};
+use juniper_tokens::{ScalarToken, Span, Spanning};
+use juniper_values::{
+    ParseScalarValue, ReadFailure, ScalarValue, Type, write_block_string_value, write_string_value,
+};
 use std::alloc::{AllocError, Global};
 use std::fmt;
 use std::fmt::Write;

@@ -2,7 +2,7 @@
 ghost use Rattle.std.specs.Prelude.{◌≡◌, ◌<◌, ◌^◌, length, IfOk};
 ghost use Rattle.std.specs.Str.{chars};
 ghost use Rattle.juniper_tokens.specs.Errors.{view_lexer_error};
-ghost use Rattle.juniper.specs.Promise.{lexical_fault};
+ghost use Rattle.juniper_parser.specs.Promise.{lexical_fault};
 ghost use Rattle.juniper_flat.specs.CanonicalTexts.{ReturnsCanonical};
 ghost use Rattle.juniper_flat.specs.Faults.{written_fault};
 ghost use Rattle.juniper_flat.specs.Fits.{PlaceFits};
@@ -10,9 +10,8 @@ ghost use Rattle.juniper_flat.specs.Fits.{PlaceFits};
 use crate::byte_table::ByteTable;
 use crate::fault::{Fault, lexical_fault};
 use crate::source::{Unread, text_of};
-use juniper::{LexerError, SourcePosition};
 use juniper_canonical::canonical_text;
-use juniper_tokens::LexFailure;
+use juniper_tokens::{LexFailure, LexerError, SourcePosition};
 use std::alloc::{AllocError, Global};
 
 /// A source's canonical text, or why there is none.

@@ -9,8 +9,7 @@ ghost use Rattle.juniper_flat.specs.TokenCounts.{ReturnsCounted};
 use crate::byte_table::ByteTable;
 use crate::fault::{Fault, many_fault};
 use crate::source::{Unread, text_of};
-use juniper::Span;
-use juniper_tokens::first_token_past;
+use juniper_tokens::{Span, first_token_past};
 use std::alloc::{AllocError, Global};
 
 /// Whether a source has more tokens than a limit.

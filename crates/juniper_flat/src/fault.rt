@@ -3,13 +3,13 @@ ghost use Rattle.std.specs.Prelude.{◌≡◌, ◌<◌, ◌^◌, ℕ, List};
 ghost use Rattle.juniper_tokens.specs.Errors.{view_error, view_fault, view_lexer_error};
 ghost use Rattle.juniper_tokens.specs.Spans.{view_span};
 ghost use Rattle.juniper_flat.specs.ByteTables.{IsTableOf};
-ghost use Rattle.juniper.specs.Promise.{lexical_fault};
+ghost use Rattle.juniper_parser.specs.Promise.{lexical_fault};
 ghost use Rattle.juniper_flat.specs.Fits.{PlaceFits, SpanFits};
 ghost use Rattle.juniper_flat.specs.Faults.{lexical_reason, error_reason, shown_of_error, shown_of_lexical, fault_at, written_fault, deep_fault, many_fault, unknown_fault, cycle_fault};
 
 use crate::byte_table::ByteTable;
 use crate::place::{Place, place_at};
-use juniper::{LexerError, ParseError, SourcePosition, Span, Spanning};
+use juniper_tokens::{LexerError, ParseError, SourcePosition, Span, Spanning};
 
 /// The kinds of errors.
 pub const UNEXPECTED_TOKEN: u32 = 0;

@@ -2,7 +2,7 @@
 ghost use Rattle.std.specs.Prelude.{◌<◌, ◌≤◌, ◌^◌, ℕ, List, length, IfErr, IfOk};
 ghost use Rattle.std.specs.Str.{chars, IsUtf8};
 ghost use Rattle.graphql_grammar.specs.Tree.{Definition};
-ghost use Rattle.juniper.specs.Limited.{FailsLimited};
+ghost use Rattle.juniper_documents.specs.Limited.{FailsLimited};
 ghost use Rattle.juniper_values.specs.Scalar.{Content};
 ghost use Rattle.juniper_flat.specs.Answers.{HasNodes, IsFailure, ReturnsParsed, IfTree, scalars};
 ghost use Rattle.juniper_flat.specs.Buildings.{AreOutlined, BuildsNodes};
@@ -18,7 +18,8 @@ use crate::limits::Limits;
 use crate::node::Node;
 use crate::scalar::SourceScalar;
 use crate::source::{Unread, text_of};
-use juniper::{LimitFailure, Limits as Within, ParseFailure, build_document_source};
+use juniper_documents::{LimitFailure, Limits as Within, build_document_source};
+use juniper_tokens::ParseFailure;
 use std::alloc::Global;
 use std::marker::PhantomData;
 use std::mem;

@@ -5,7 +5,7 @@ ghost use Rattle.juniper_nodes.specs.Literal.{str_in};
 ghost use Rattle.juniper_flat.specs.Scalars.{content_of, scalar_content};
 
 use crate::scalar::SourceScalar;
-use juniper::DefaultScalarValue;
+use juniper_values::DefaultScalarValue;
 
 /// A scalar without its text.
 #[derive(Clone, Copy)]

@@ -11,7 +11,7 @@ ghost use Rattle.graphql_lexical.specs.Tokens.{Spells};
 ghost use Rattle.graphql_lexical.specs.declared.kind.Kind as kind;
 ghost use Rattle.juniper_tokens.specs.Errors as errors;
 ghost use Rattle.juniper_tokens.specs.Errors.{view_error, view_lexer_error};
-ghost use Rattle.juniper.specs.Promise.{IsRefusal, lexical_fault};
+ghost use Rattle.juniper_parser.specs.Promise.{IsRefusal, lexical_fault};
 ghost use Rattle.juniper_flat.specs.Answers.{scalars};
 ghost use Rattle.juniper_flat.specs.Faults.{written_fault};
 ghost use Rattle.juniper_flat.specs.Messages.{HasLexicalWords, HasWords, ReturnsMessage, ReturnsItsWords, IsOfGrammar, ShowsText, shown_bytes, IsQuoted};
@@ -23,8 +23,7 @@ use crate::fault::{
     UNTERMINATED_STRING,
 };
 use crate::source::{Unread, text_of};
-use juniper::{LexerError, ParseError};
-use juniper_tokens::ScalarToken;
+use juniper_tokens::{LexerError, ParseError, ScalarToken};
 use std::alloc::{AllocError, Global};
 
 /// Returns an error of a source in words, or `None` if there are none for such an error: it has a number that no error

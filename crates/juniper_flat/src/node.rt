@@ -4,7 +4,7 @@ ghost use Rattle.std.specs.Option.{unwrap_or};
 ghost use Rattle.std.specs.Str.{chars};
 ghost use Rattle.graphql_lexical.specs.Place as places;
 ghost use Rattle.juniper_tokens.specs.Spans.{view_span};
-ghost use Rattle.juniper.specs.View.{view_word};
+ghost use Rattle.juniper_tree.specs.View.{view_word};
 ghost use Rattle.juniper_nodes.specs.Literal.{str_in};
 ghost use Rattle.juniper_nodes.specs.NodeTexts.{text_of_node};
 ghost use Rattle.juniper_nodes.specs.NodeViews.{view_label, view_node};
@@ -17,8 +17,8 @@ ghost use Rattle.juniper_flat.specs.Scalars.{content_of};
 use crate::byte_table::ByteTable;
 use crate::form::ScalarForm;
 use crate::place::{Place, in_word, place_at};
-use juniper::Spanning;
 use juniper_nodes::{Label, NodeKind};
+use juniper_tokens::Spanning;
 
 /// A part of a document.
 #[repr(C)]

@@ -7,11 +7,11 @@ ghost use Rattle.juniper_values.specs.Scalar.{MeetsReading, same_content};
 ghost use Rattle.juniper_nodes.specs.Literal.{literal_shown, str_in, string_reading, of_block};
 ghost use Rattle.juniper_flat.specs.Scalars.{scalar_content, int_reading};
 
-use juniper::{
-    BesideDefault, DefaultScalarValue, Held, ParseScalarResult, ParseScalarValue, ScalarToken,
-    ScalarValue,
-};
+use juniper_tokens::ScalarToken;
 use juniper_tokens::text::{copied, same_text, write_text};
+use juniper_values::{
+    BesideDefault, DefaultScalarValue, Held, ParseScalarResult, ParseScalarValue, ScalarValue,
+};
 use std::alloc::{AllocError, Global};
 use std::fmt;
 

@@ -7,8 +7,7 @@ ghost use Rattle.juniper_flat.specs.Tokens.{kind_number, quote_count, token_at};
 
 use crate::byte_table::ByteTable;
 use crate::place::{Place, place_at};
-use juniper::Span;
-use juniper_tokens::Kind;
+use juniper_tokens::{Kind, Span};
 
 /// A token of a source.
 #[repr(C)]

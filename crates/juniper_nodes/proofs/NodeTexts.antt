@@ -15,7 +15,7 @@ use Rattle.graphql_nodes.specs.Types.{type_text}
 use Rattle.graphql_nodes.proofs.Public.{IsUntyped, Weighs, document_front}
 use Rattle.juniper_values.specs.Text.{Text}
 use Rattle.juniper_values.specs.Scalar.{Content, boolean, Reading}
-use Rattle.juniper.specs.Scalars.{stated}
+use Rattle.juniper_tree.specs.Scalars.{stated}
 use Rattle.juniper_nodes.specs.NodeTexts.{text_of_label, text_of_node, node_texts}
 use Rattle.juniper_nodes.proofs.TextLengths.{size, size_is, size_joins}
 use Rattle.juniper_nodes.proofs.SourceBytes.{weight, leads_bytes}

@@ -6,9 +6,10 @@ use Rattle.graphql_nodes.specs.Nodes.{Node, Named, over, if_present, each, alias
 use Rattle.graphql_nodes.specs.declared.kind.NodeKind.TheVariants as kind
 use Rattle.juniper_tokens.specs.Spans.{view_span}
 use Rattle.juniper_tokens.specs.declared.span.Spanning.{Spanning}
-use Rattle.juniper.specs.declared.tree.ast.Field.{Field}
-use Rattle.juniper.specs.declared.tree.ast.Selection.{Selection}
-use Rattle.juniper.specs.View.{view_word, view_arguments, view_directives, view_selection, view_selections, view_field}
+use Rattle.juniper_tree.specs.declared.ast.Field.{Field}
+use Rattle.juniper_tree.specs.declared.ast.Selection.{Selection}
+use Rattle.juniper_tree.specs.View.{view_word, view_arguments, view_directives, view_selection}
+use Rattle.juniper_tree.specs.View.{view_selections, view_field}
 
 module _ {S C : Type 0} (content : S → C) where
   -- a field above these nodes of its selections

@@ -9,7 +9,7 @@ use Rattle.graphql_nodes.specs.Nodes.{document_nodes}
 use Rattle.juniper_values.specs.Text.{Text}
 use Rattle.juniper_values.specs.Scalar.{Content, integer, text, boolean, custom, Reading}
 use Rattle.juniper_values.specs.Default.{default_reading}
-use Rattle.juniper.specs.Scalars.{stated}
+use Rattle.juniper_tree.specs.Scalars.{stated}
 use Rattle.juniper_nodes.specs.Literal.{literal_reading, int_reading, str_in, of_int, of_large_int, of_float, of_string, of_block}
 use Rattle.juniper_nodes.specs.NodeTexts.{node_texts}
 use Rattle.juniper_nodes.proofs.Literals.{shown_after}

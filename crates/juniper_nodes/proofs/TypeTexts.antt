@@ -8,7 +8,7 @@ use Rattle.juniper_values.specs.TypeLiteral as literal
 use Rattle.juniper_values.specs.TypeLiteral.{TypeShape}
 use Rattle.juniper_values.specs.declared.type_literal.TypeModifier.{TypeModifier}
 use Rattle.juniper_values.specs.declared.type_literal.TypeModifier.TheVariants as modifier
-use Rattle.juniper.specs.View.{wrapped, view_type}
+use Rattle.juniper_tree.specs.View.{wrapped, view_type}
 
 wrapped-text : (t : TypeRef) (ms : List TypeModifier) → type_text (wrapped t ms) ≡ literal.type_text (type_text t) ms
 unfolding type_text

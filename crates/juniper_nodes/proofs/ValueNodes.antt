@@ -9,8 +9,8 @@ use Rattle.juniper_tokens.specs.declared.span.Spanning.{Spanning}
 use Rattle.juniper_values.specs.View.{view}
 use Rattle.juniper_values.specs.declared.input_value.InputValue.{InputValue}
 use Rattle.juniper_values.specs.declared.input_value.InputValue.TheVariants as V
-use Rattle.juniper.specs.View.{text_of, view_value, view_object_field}
-use Rattle.juniper.specs.Cases.{SeesValues}
+use Rattle.juniper_tree.specs.View.{text_of, view_value, view_object_field}
+use Rattle.juniper_tree.specs.Cases.{SeesValues}
 
 -- the nodes of an object's field
 abbrev pub field_nodes : {C : Type 0} → Word × Located (Value C) → List (Node C)

@@ -8,11 +8,11 @@ use Rattle.graphql_grammar.specs.Tree as tree
 use Rattle.graphql_nodes.specs.Nodes as nodes
 use Rattle.juniper_tokens.specs.Spans.{view_span}
 use Rattle.juniper_tokens.specs.declared.span.Spanning.{Spanning}
-use Rattle.juniper.specs.declared.tree.ast.Definition.TheVariants as definition
-use Rattle.juniper.specs.declared.tree.ast.Fragment.{Fragment}
-use Rattle.juniper.specs.declared.tree.ast.FragmentSpread.{FragmentSpread}
-use Rattle.juniper.specs.declared.tree.ast.Operation.{Operation}
-use Rattle.juniper.specs.View.{view_word, view_type, view_directives, view_definition}
+use Rattle.juniper_tree.specs.declared.ast.Definition.TheVariants as definition
+use Rattle.juniper_tree.specs.declared.ast.Fragment.{Fragment}
+use Rattle.juniper_tree.specs.declared.ast.FragmentSpread.{FragmentSpread}
+use Rattle.juniper_tree.specs.declared.ast.Operation.{Operation}
+use Rattle.juniper_tree.specs.View.{view_word, view_type, view_directives, view_definition}
 use Rattle.juniper_nodes.specs.declared.node.Label.{Label}
 use Rattle.juniper_nodes.specs.declared.node.Label.TheVariants as label
 use Rattle.juniper_nodes.specs.declared.node.Node.{Node}

@@ -5,7 +5,7 @@ ghost use Rattle.graphql_grammar.specs.Tree.{Definition};
 ghost use Rattle.graphql_grammar.specs.Grammar.{IsDocument};
 ghost use Rattle.graphql_nodes.specs.Nodes.{document_nodes};
 ghost use Rattle.juniper_values.specs.Scalar.{Content, boolean};
-ghost use Rattle.juniper.specs.Scalars.{stated};
+ghost use Rattle.juniper_tree.specs.Scalars.{stated};
 ghost use Rattle.juniper_nodes.specs.Literal.{literal_reading};
 ghost use Rattle.juniper_nodes.specs.NodeTexts.{node_texts};
 

@@ -10,11 +10,12 @@ ghost use Rattle.juniper_values.specs.Text.{same_text};
 ghost use Rattle.juniper_values.specs.View.{text_of};
 ghost use Rattle.juniper_nodes.specs.Literal.{literal_content, literal_shown, int_reading, string_reading, of_string, of_block};
 
-use juniper::{
-    BesideDefault, DefaultScalarValue, Held, ParseScalarResult, ParseScalarValue, ReadFailure,
-    ScalarToken, ScalarValue,
-};
+use juniper_tokens::ScalarToken;
 use juniper_tokens::text::{copied, same_string, write_text};
+use juniper_values::{
+    BesideDefault, DefaultScalarValue, Held, ParseScalarResult, ParseScalarValue, ReadFailure,
+    ScalarValue,
+};
 use std::alloc::{AllocError, Global};
 use std::fmt;
 

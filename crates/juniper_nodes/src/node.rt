@@ -1,6 +1,7 @@
 //! A node of a document, and its label.
 use graphql_nodes::NodeKind;
-use juniper::{Span, Spanning, Type};
+use juniper_tokens::{Span, Spanning};
+use juniper_values::Type;
 
 /// The label of a node: what names it (GraphQL specification, October 2021, section 2).
 #[derive(Clone, Copy, Drop)]

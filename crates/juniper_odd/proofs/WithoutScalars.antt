@@ -9,8 +9,8 @@ use Rattle.juniper_tokens.specs.declared.error.ParseFailure.{ParseFailure}
 use Rattle.juniper_tokens.specs.declared.error.ParseFailure.TheVariants as failure
 use Rattle.juniper_tokens.specs.Errors.{Error, Fault, view_fault}
 use Rattle.juniper_values.specs.Scalar.{Content, boolean}
-use Rattle.juniper.specs.Promise.{HasTree, IfRefused, IsRefusal}
-use Rattle.juniper.specs.laws.RefusalClauses.{IsRefusalByClauses}
+use Rattle.juniper_parser.specs.Promise.{HasTree, IfRefused, IsRefusal}
+use Rattle.juniper_documents.specs.laws.RefusalClauses.{IsRefusalByClauses}
 use Rattle.std.specs.Result.{IfOk}
 use Rattle.juniper_odd.specs.WithoutScalars.{no_literals, IsDocumentWithoutScalars, AcceptsExactly}
 

@@ -9,7 +9,7 @@ use Rattle.juniper_tokens.specs.declared.error.ParseFailure.{ParseFailure}
 use Rattle.juniper_tokens.specs.declared.error.ParseFailure.TheVariants as failure
 use Rattle.juniper_tokens.specs.Errors.{Error}
 use Rattle.juniper_values.specs.Scalar.{Content, boolean}
-use Rattle.juniper.specs.Scalars.{stated}
+use Rattle.juniper_tree.specs.Scalars.{stated}
 use Rattle.juniper_odd.specs.RefuseAll.{refuse_all_reading}
 
 -- what `RefuseAll` states

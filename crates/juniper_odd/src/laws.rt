@@ -2,14 +2,17 @@
 ghost use Rattle.std.specs.Prelude.{IfOk};
 ghost use Rattle.std.specs.Str.{chars};
 ghost use Rattle.juniper_tokens.specs.Errors.{view_fault};
-ghost use Rattle.juniper.specs.Promise.{HasTree, IfRefused, IsRefusal};
-ghost use Rattle.juniper.specs.View.{view_document};
+ghost use Rattle.juniper_parser.specs.Promise.{HasTree, IfRefused, IsRefusal};
+ghost use Rattle.juniper_tree.specs.View.{view_document};
 ghost use Rattle.juniper_odd.specs.ReadBy.{held_content};
 ghost use Rattle.juniper_odd.specs.WithoutScalars.{AcceptsExactly, IsDocumentWithoutScalars, no_literals};
 
 use crate::refuse_all::RefuseAll;
-use juniper::laws::{refusals_by_clauses, scalar_tokens};
-use juniper::{OwnedDocument, UnlocatedParseResult, parse_document_source};
+use juniper_documents::laws::refusals_by_clauses;
+use juniper_documents::parse_document_source;
+use juniper_tokens::UnlocatedParseResult;
+use juniper_tree::OwnedDocument;
+use juniper_tree::laws::scalar_tokens;
 use std::alloc::Global;
 
 /// Parses a text as a document by `RefuseAll`: it accepts exactly the documents without scalar tokens.

@@ -1,9 +1,7 @@
 //! A scalar type whose error is a lexical error.
 use crate::read_by::{ReadBy, TokenReader};
-use juniper::{
-    DefaultScalarValue, LexerError, ParseError, ParseScalarResult, ParseScalarValue, ReadFailure,
-    ScalarToken,
-};
+use juniper_tokens::{LexerError, ParseError, ScalarToken};
+use juniper_values::{DefaultScalarValue, ParseScalarResult, ParseScalarValue, ReadFailure};
 use std::alloc::Global;
 
 /// Scalars of the default type whose strings are not read from tokens.

@@ -8,9 +8,9 @@ ghost use Rattle.juniper_values.specs.Scalar.{Reading, MeetsReading};
 ghost use Rattle.juniper_values.specs.Text.{Text};
 ghost use Rattle.juniper_odd.specs.ReadBy.{held_content};
 
-use juniper::{
-    BesideDefault, DefaultScalarValue, Held, ParseScalarResult, ParseScalarValue, ScalarToken,
-    ScalarValue,
+use juniper_tokens::ScalarToken;
+use juniper_values::{
+    BesideDefault, DefaultScalarValue, Held, ParseScalarResult, ParseScalarValue, ScalarValue,
 };
 use std::alloc::{AllocError, Global};
 use std::fmt;

@@ -1,6 +1,7 @@
 //! A scalar type that reads no literal.
 use crate::read_by::{ReadBy, TokenReader};
-use juniper::{DefaultScalarValue, ParseError, ParseScalarResult, ReadFailure, ScalarToken};
+use juniper_tokens::{ParseError, ScalarToken};
+use juniper_values::{DefaultScalarValue, ParseScalarResult, ReadFailure};
 use std::alloc::Global;
 
 /// Scalars of the default type, none of which is read from a token: a document has `true` and `false` and no other.

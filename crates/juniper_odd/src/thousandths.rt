@@ -6,9 +6,10 @@ ghost use Rattle.juniper_odd.specs.Decimals.{milli_text};
 ghost use Rattle.juniper_odd.specs.Thousandths.{thousandths_content, thousandths_shown, float_reading};
 
 use crate::decimals::{thousandths_in, write_decimal};
-use juniper::{
-    BesideDefault, DefaultScalarValue, Held, ParseError, ParseScalarResult, ParseScalarValue,
-    ReadFailure, ScalarToken, ScalarValue,
+use juniper_tokens::{ParseError, ScalarToken};
+use juniper_values::{
+    BesideDefault, DefaultScalarValue, Held, ParseScalarResult, ParseScalarValue, ReadFailure,
+    ScalarValue,
 };
 use std::alloc::{AllocError, Global};
 use std::fmt;

@@ -12,7 +12,7 @@ use Rattle.juniper_values.specs.Text.{same_text}
 use Rattle.juniper_tokens.specs.declared.span.Spanning.{Spanning}
 use Rattle.juniper_values.specs.View.{view}
 use Rattle.juniper_values.specs.declared.input_value.InputValue.{InputValue}
-use Rattle.juniper.specs.View.{view_value}
+use Rattle.juniper_tree.specs.View.{view_value}
 use Rattle.juniper_requests.specs.Defaults.{defines, default_in, given_or, WithDefaults}
 use Rattle.juniper_requests.proofs.Variables.{equal_texts}
 

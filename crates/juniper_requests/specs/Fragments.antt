@@ -2,9 +2,9 @@
 use Rattle.std.specs.Prelude.{◌≡◌, List, map}
 use Rattle.graphql_grammar.specs.Tree as tree
 use Rattle.juniper_tokens.specs.declared.span.Spanning.{Spanning}
-use Rattle.juniper.specs.View.{view_definition}
-use Rattle.juniper.specs.declared.tree.ast.Definition.TheVariants as definition
-use Rattle.juniper.specs.declared.tree.ast.Fragment.{Fragment}
+use Rattle.juniper_tree.specs.View.{view_definition}
+use Rattle.juniper_tree.specs.declared.ast.Definition.TheVariants as definition
+use Rattle.juniper_tree.specs.declared.ast.Fragment.{Fragment}
 use Rattle.juniper_complexity.specs.Parts.{fragment_at}
 use Rattle.juniper_outlines.specs.Names.{Knows}
 use Rattle.juniper_requests.specs.declared.fragments.Fragments.{Fragments}

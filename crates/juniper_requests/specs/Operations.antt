@@ -8,9 +8,9 @@ use Rattle.graphql_grammar.specs.Tree as tree
 use Rattle.graphql_grammar.specs.Tree.{Definition}
 use Rattle.juniper_tokens.specs.declared.span.Spanning.{Spanning}
 use Rattle.juniper_values.specs.Text.{same_text}
-use Rattle.juniper.specs.View.{view_definition}
-use Rattle.juniper.specs.declared.tree.ast.Definition.TheVariants as definition
-use Rattle.juniper.specs.declared.tree.ast.Operation.{Operation}
+use Rattle.juniper_tree.specs.View.{view_definition}
+use Rattle.juniper_tree.specs.declared.ast.Definition.TheVariants as definition
+use Rattle.juniper_tree.specs.declared.ast.Operation.{Operation}
 use Rattle.juniper_complexity.specs.Parts.{is_operation}
 use Rattle.juniper_requests.specs.declared.operations.OperationFailure.{OperationFailure}
 use Rattle.juniper_requests.specs.declared.operations.OperationFailure.TheVariants as failure

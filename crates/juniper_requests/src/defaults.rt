@@ -5,11 +5,13 @@ ghost use Rattle.std.specs.Str.{chars};
 ghost use Rattle.graphql_grammar.specs.Tokens.{Text};
 ghost use Rattle.juniper_values.specs.Text.{same_text};
 ghost use Rattle.juniper_values.specs.View.{values_in, view};
-ghost use Rattle.juniper.specs.View.{view_variable};
+ghost use Rattle.juniper_tree.specs.View.{view_variable};
 ghost use Rattle.juniper_requests.specs.Defaults.{WithDefaults, AreKept, given_or};
 ghost use Rattle.juniper_requests.specs.device.Seen.{HasSeen};
 
-use juniper::{InputValue, ScalarValue, Spanning, VariableDefinitions, Variables};
+use juniper_tokens::Spanning;
+use juniper_tree::VariableDefinitions;
+use juniper_values::{InputValue, ScalarValue, Variables};
 use std::alloc::{AllocError, Global};
 use std::collections::BTreeSet;
 

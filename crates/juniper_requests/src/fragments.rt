@@ -4,12 +4,14 @@ ghost use Rattle.std.specs.List.{find, slice_get};
 ghost use Rattle.std.specs.Str.{chars};
 ghost use Rattle.graphql_grammar.specs.Tree as tree;
 ghost use Rattle.juniper_values.specs.Scalar.{Content};
-ghost use Rattle.juniper.specs.View.{view_definition};
+ghost use Rattle.juniper_tree.specs.View.{view_definition};
 ghost use Rattle.juniper_complexity.specs.Parts.{is_fragment_named, is_operation};
 ghost use Rattle.juniper_requests.specs.Fragments.{AreFragmentsOf, view_fragment};
 
-use juniper::{Definition, Fragment, ScalarValue, Spanning};
 use juniper_complexity::fragment_names;
+use juniper_tokens::Spanning;
+use juniper_tree::{Definition, Fragment};
+use juniper_values::ScalarValue;
 use std::alloc::{AllocError, Global};
 use std::collections::BTreeMap;
 

@@ -2,12 +2,14 @@
 ghost use Rattle.std.specs.Prelude.{◌≡◌, map, option_map};
 ghost use Rattle.std.specs.List.{filter, find};
 ghost use Rattle.std.specs.Str.{chars};
-ghost use Rattle.juniper.specs.View.{view_word, view_definition};
+ghost use Rattle.juniper_tree.specs.View.{view_word, view_definition};
 ghost use Rattle.juniper_complexity.specs.Parts.{is_operation};
 ghost use Rattle.juniper_requests.specs.Operations.{has_name, is_operation_named, the_only, or_unknown, get_operation, view_found};
 
-use juniper::{Definition, Operation, ScalarValue, Spanning};
+use juniper_tokens::Spanning;
 use juniper_tokens::text::same_text;
+use juniper_tree::{Definition, Operation};
+use juniper_values::ScalarValue;
 
 /// Why a document has no operation that is executed.
 #[derive(Clone, Copy, Debug, PartialEq, Eq)]

@@ -2,7 +2,7 @@
 use Rattle.std.specs.Prelude.{ℕ, List, [], ◌∷◌, Option, Err}
 use Rattle.std.specs.Borrow.{Bor}
 use Rattle.graphql_grammar.specs.Tree.{Definition}
-use Rattle.juniper.specs.Building.{BuildsEach, FailsReading}
+use Rattle.juniper_parser.specs.Building.{BuildsEach, FailsReading}
 use Rattle.juniper_values.specs.Scalar.{Content, Reading, MeetsReading}
 use Rattle.juniper_values.specs.declared.scalar.ReadFailure.{ReadFailure}
 use Rattle.juniper_values.specs.declared.scalar.ReadFailure.TheVariants.{Refused, Memory}

@@ -12,8 +12,8 @@ use Rattle.juniper_tokens.specs.declared.error.ParseFailure.{ParseFailure}
 use Rattle.juniper_tokens.specs.declared.error.ParseFailure.TheVariants as failure
 use Rattle.juniper_tokens.specs.declared.error.LexFailure.{LexFailure}
 use Rattle.juniper_tokens.specs.Errors.{Error, UnexpectedEndOfFile, Fault, view_fault, failure_of}
-use Rattle.juniper.specs.laws.TreeLaws.{IsRefusedAtBreak}
-use Rattle.juniper.specs.Promise.{lexical_fault, unexpected, Refuses, IfRefused, ReturnsValue}
+use Rattle.juniper_documents.specs.laws.TreeLaws.{IsRefusedAtBreak}
+use Rattle.juniper_parser.specs.Promise.{lexical_fault, unexpected, Refuses, IfRefused, ReturnsValue}
 use Rattle.test_harness.specs.Literals.{HasNoValue}
 
 module _ {C : Type 0} (S : Scalars C Error) (source : List ℕ) (ends : HasOneCutOrBreak source) where

@@ -5,13 +5,13 @@ use Rattle.std.specs.Str.{chars}
 use Rattle.std.proofs.lemmas.List.{map-append}
 use Rattle.graphql_grammar.specs.Tokens.{Text}
 use Rattle.juniper_tokens.specs.declared.span.Spanning.{Spanning}
-use Rattle.juniper.specs.declared.tree.ast.Field.{Field}
-use Rattle.juniper.specs.declared.tree.ast.InlineFragment.{InlineFragment}
-use Rattle.juniper.specs.declared.tree.ast.Selection.{Selection}
-use Rattle.juniper.specs.declared.tree.ast.Selection.TheVariants as V
-use Rattle.juniper.specs.declared.tree.ast.Definition.{Definition}
-use Rattle.juniper.specs.View.{view_word, view_selection, view_selections, view_field, view_definition}
-use Rattle.juniper.specs.Cases.{SeesSelections}
+use Rattle.juniper_tree.specs.declared.ast.Field.{Field}
+use Rattle.juniper_tree.specs.declared.ast.InlineFragment.{InlineFragment}
+use Rattle.juniper_tree.specs.declared.ast.Selection.{Selection}
+use Rattle.juniper_tree.specs.declared.ast.Selection.TheVariants as V
+use Rattle.juniper_tree.specs.declared.ast.Definition.{Definition}
+use Rattle.juniper_tree.specs.View.{view_word, view_selection, view_selections, view_field, view_definition}
+use Rattle.juniper_tree.specs.Cases.{SeesSelections}
 use Rattle.test_harness.specs.Fields.{texts, fields_of, fields_within, fields_among, fields_in, field_names}
 
 -- names that grow by some and then by others

@@ -4,15 +4,15 @@ use Rattle.std.specs.List.{AllByRecursion}
 use Rattle.graphql_grammar.specs.Tree.{Definition}
 use Rattle.juniper_tokens.specs.Errors.{Fault}
 use Rattle.juniper_values.specs.Scalar.{Content}
-use Rattle.juniper.specs.Scalars.{default_scalars}
+use Rattle.juniper_tree.specs.Scalars.{default_scalars}
 use Rattle.graphql_lexical.specs.Place.{Span}
-use Rattle.juniper.specs.Promise.{HasTree, IsRefusal, lexical, grammatical}
+use Rattle.juniper_parser.specs.Promise.{HasTree, IsRefusal, lexical, grammatical}
 use Rattle.graphql_lexical.specs.Cutting.{Lexeme}
 use Rattle.graphql_lexical.proofs.Public.{one_cut_or_break}
 use Rattle.graphql_grammar.specs.Grammar.{IsDocument}
 use Rattle.graphql_grammar.specs.Tokens.{IsSpelled}
 use Rattle.graphql_grammar.proofs.Public.{cut_spelled}
-use Rattle.juniper.specs.Within.{HasTooDeep, IsWithin}
+use Rattle.juniper_documents.specs.Within.{HasTooDeep, IsWithin}
 use Rattle.test_harness.specs.Documents.{IsDocumentText, IsDocumentWithin}
 
 pub some_tree : (source : List ℕ) (tree : List (Definition Content)) → HasTree default_scalars source tree

@@ -2,11 +2,11 @@
 use Rattle.std.specs.Prelude.{◌≡◌, ◌<◌, ◌≤◌, ℕ, List, Some, slice_get}
 use Rattle.graphql_grammar.specs.Tree.{Definition}
 use Rattle.juniper_values.specs.Scalar.{Content}
-use Rattle.juniper.specs.Scalars.{default_scalars}
-use Rattle.juniper.specs.Promise.{HasTree}
-use Rattle.juniper.specs.Within.{IsWithin}
-use Rattle.juniper.specs.Limited.{HasFewTokens, FailsLimited}
-use Rattle.juniper.specs.declared.parser.document.limited.Limits.{Limits}
+use Rattle.juniper_tree.specs.Scalars.{default_scalars}
+use Rattle.juniper_parser.specs.Promise.{HasTree}
+use Rattle.juniper_documents.specs.Within.{IsWithin}
+use Rattle.juniper_documents.specs.Limited.{HasFewTokens, FailsLimited}
+use Rattle.juniper_documents.specs.declared.document.limited.Limits.{Limits}
 use Rattle.juniper_complexity.specs.Faults.{OperationsHave, SpreadFault, FirstFault, view_failure}
 use Rattle.juniper_outlines.specs.declared.operations.OperationComplexity.{OperationComplexity}
 use Rattle.test_harness.specs.declared.guide.limiter.CostFailure.{CostFailure}

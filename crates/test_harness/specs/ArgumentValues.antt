@@ -5,8 +5,8 @@ use Rattle.juniper_tokens.specs.declared.span.Spanning.{Spanning}
 use Rattle.juniper_values.specs.Resolve.{Values, resolve}
 use Rattle.juniper_values.specs.View.{view}
 use Rattle.juniper_values.specs.declared.input_value.InputValue.{InputValue}
-use Rattle.juniper.specs.declared.tree.ast.Arguments.{Arguments}
-use Rattle.juniper.specs.Named.{first_named}
+use Rattle.juniper_tree.specs.declared.ast.Arguments.{Arguments}
+use Rattle.juniper_tree.specs.Named.{first_named}
 
 module _ {S C : Type 0} (content : S → C) (values : Values C) where
   -- a value whose variables are replaced, if there is one

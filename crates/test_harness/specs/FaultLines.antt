@@ -3,9 +3,9 @@ use Rattle.std.specs.Prelude.{◌≡◌, ℕ, List, ◌++◌, codes, Option, Som
 use Rattle.std.specs.declared.alloc.Global.{Global}
 use Rattle.juniper_tokens.specs.Errors.{Fault, error_text}
 use Rattle.juniper_tokens.specs.Positions.{position_text}
-use Rattle.juniper.specs.Scalars.{default_scalars}
+use Rattle.juniper_tree.specs.Scalars.{default_scalars}
 use Rattle.test_harness.specs.Documents.{IsDocumentText}
-use Rattle.juniper.specs.Promise.{IsRefusal}
+use Rattle.juniper_parser.specs.Promise.{IsRefusal}
 
 -- where a fault stands, by line and column, and its error
 abbrev pub fault_text : Fault → List ℕ

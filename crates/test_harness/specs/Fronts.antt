@@ -3,9 +3,9 @@ use Rattle.std.specs.Prelude.{◌≡◌, ℕ, List, Option, Some, None}
 use Rattle.juniper_tokens.specs.declared.span.Span.{Span}
 use Rattle.juniper_tokens.specs.Spans.{view_span}
 use Rattle.juniper_tokens.specs.Errors.{Fault}
-use Rattle.juniper.specs.Scalars.{default_scalars}
+use Rattle.juniper_tree.specs.Scalars.{default_scalars}
 use Rattle.test_harness.specs.Documents.{IsDocumentText}
-use Rattle.juniper.specs.Promise.{IsRefusal}
+use Rattle.juniper_parser.specs.Promise.{IsRefusal}
 
 -- Nothing of a document, and of any other text the span of its fault. Where the text can be cut into tokens, what
 -- stands before that, and a space, can be completed to a document's text.

@@ -12,8 +12,8 @@ use Rattle.juniper_tokens.specs.Errors.{Error, UnexpectedEndOfFile, Fault}
 use Rattle.juniper_values.specs.Same.{same_but_place}
 use Rattle.juniper_values.specs.View.{view}
 use Rattle.juniper_values.specs.declared.input_value.InputValue.{InputValue}
-use Rattle.juniper.specs.Promise.{lexical_fault, unexpected, Refuses}
-use Rattle.juniper.specs.View.{view_value}
+use Rattle.juniper_parser.specs.Promise.{lexical_fault, unexpected, Refuses}
+use Rattle.juniper_tree.specs.View.{view_value}
 
 module _ {C : Type 0} (scalars : Scalars C Error) where
   -- The text can be cut into tokens, and a front of them is this value, with or without variables.

@@ -6,9 +6,9 @@ use Rattle.std.specs.Global.{Vec}
 use Rattle.graphql_grammar.specs.Tokens.{Text, Located}
 use Rattle.graphql_grammar.specs.Tree.{Value, Arguments, Directives, Variables, Selections, OptionalSelections}
 use Rattle.graphql_grammar.specs.Tree.{Definition, Operation, Fragment}
-use Rattle.juniper.specs.Building.{BuildsList, BuildsOptional, BuildsOptionalSet, BuildsSet}
-use Rattle.juniper.specs.Promise.{HasTree}
-use Rattle.juniper.specs.Scalars.{default_scalars}
+use Rattle.juniper_parser.specs.Building.{BuildsList, BuildsOptional, BuildsOptionalSet, BuildsSet}
+use Rattle.juniper_parser.specs.Promise.{HasTree}
+use Rattle.juniper_tree.specs.Scalars.{default_scalars}
 use Rattle.juniper_values.specs.Scalar.{Content}
 use Rattle.test_harness.specs.declared.guide.names.DefinitionNames.{DefinitionNames}
 

@@ -14,8 +14,8 @@ struct Given(usize);
 
 impl DefinitionSink<DefaultScalarValue> for Given {
     ghost use Rattle.std.specs.Prelude.{OnOk, OnErr, ◌∷◌, []};
-    ghost use Rattle.juniper.specs.Sinks.{Gains};
-    ghost use Rattle.juniper.specs.View.{view_definition};
+    ghost use Rattle.juniper_documents.specs.Sinks.{Gains};
+    ghost use Rattle.juniper_tree.specs.View.{view_definition};
     ghost use Rattle.juniper_values.specs.Default.{default_content};
     ghost use Rattle.juniper_values.specs.Scalar.{Content};
 

@@ -5,8 +5,8 @@ use Rattle.graphql_grammar.specs.Tree as tree
 use Rattle.graphql_grammar.specs.Tree.{Definition}
 use Rattle.juniper_tokens.specs.Spans.{view_span}
 use Rattle.juniper_tokens.specs.declared.span.Spanning.{Spanning}
-use Rattle.juniper.specs.View.{view_word, view_directives}
-use Rattle.juniper.specs.declared.tree.ast.FragmentSpread.{FragmentSpread}
+use Rattle.juniper_tree.specs.View.{view_word, view_directives}
+use Rattle.juniper_tree.specs.declared.ast.FragmentSpread.{FragmentSpread}
 use Rattle.juniper_outlines.specs.Complexities.{capped, capped_complexity}
 use Rattle.juniper_complexity.specs.Parts.{Reference, spreads_of_definition, is_operation}
 use Rattle.juniper_complexity.specs.device.BySpreads.{own_of_definition}

@@ -4,8 +4,8 @@ ghost use Rattle.graphql_grammar.specs.Tokens.{Located};
 ghost use Rattle.graphql_grammar.specs.Tree as tree;
 ghost use Rattle.graphql_grammar.specs.Tree.{Value as Seen};
 ghost use Rattle.graphql_nodes.specs.Nodes.{operation_kind, directive_nodes};
-ghost use Rattle.juniper.specs.Building.{a_directive, a_field, a_spread, an_inline_fragment, a_variable, an_operation, a_fragment};
-ghost use Rattle.juniper.specs.View.{view_spanned_type, view_word};
+ghost use Rattle.juniper_parser.specs.Building.{a_directive, a_field, a_spread, an_inline_fragment, a_variable, an_operation, a_fragment};
+ghost use Rattle.juniper_tree.specs.View.{view_spanned_type, view_word};
 ghost use Rattle.juniper_nodes.specs.NodeViews.{TellsName};
 ghost use Rattle.juniper_tokens.specs.Spans.{view_span};
 ghost use Rattle.juniper_values.specs.Scalar.{Content};
@@ -17,11 +17,12 @@ use crate::builder::NodeBuilder;
 use crate::builder::outliner::{Outliner, VariableOutliner};
 use crate::form::form_of;
 use crate::scalar::SourceScalar;
-use juniper::{
-    Builder, OperationType, ParseFailure, ScalarToken, Span, Spanning, Streamed, Type, unread,
-};
+use graphql_grammar::OperationType;
 use juniper_complexity::PartCount;
 use juniper_nodes::{Label, NodeKind};
+use juniper_parser::{Builder, unread};
+use juniper_tokens::{ParseFailure, ScalarToken, Span, Spanning, Streamed};
+use juniper_values::Type;
 use std::alloc::{AllocError, Global};
 use std::marker::PhantomData;
 

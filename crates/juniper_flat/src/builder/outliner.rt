@@ -5,15 +5,16 @@ ghost use Rattle.graphql_grammar.specs.Tokens.{Word, Located};
 ghost use Rattle.graphql_grammar.specs.Tree as tree;
 ghost use Rattle.graphql_grammar.specs.Tree.{TypeRef, Value as Seen};
 ghost use Rattle.graphql_grammar.specs.declared.operation.OperationType.{OperationType};
-ghost use Rattle.juniper.specs.Building.{BuildsOptional, BuildsOptionalSet, BuildsSet};
-ghost use Rattle.juniper.specs.View.{view_word};
+ghost use Rattle.juniper_parser.specs.Building.{BuildsOptional, BuildsOptionalSet, BuildsSet};
+ghost use Rattle.juniper_tree.specs.View.{view_word};
 ghost use Rattle.juniper_complexity.specs.Gathered.{GathersVariables, KeepsDirectives, gathered};
 ghost use Rattle.juniper_complexity.specs.declared.outline_builder.PartCount.{PartCount as Parts};
 ghost use Rattle.juniper_tokens.specs.Spans.{view_span};
 ghost use Rattle.juniper_values.specs.Scalar.{Content};
 
-use juniper::{Gather, Span, Spanning};
 use juniper_complexity::{DefinitionOutline, DefinitionOutlines, OutlineBuilder, PartCount};
+use juniper_parser::Gather;
+use juniper_tokens::{Span, Spanning};
 use std::alloc::AllocError;
 
 /// Gathers variable definitions. A trait of its own, since the type of a variable has a `'static` in it: the borrow checker

@@ -1,7 +1,7 @@
 //! The nodes of definitions.
 ghost use Rattle.std.specs.Prelude.{◌≡◌, OnOk, OnErr, IfOk, map};
 ghost use Rattle.graphql_nodes.specs.Nodes.{definition_nodes, document_nodes, operation_kind};
-ghost use Rattle.juniper.specs.View.{view_definition};
+ghost use Rattle.juniper_tree.specs.View.{view_definition};
 ghost use Rattle.juniper_nodes.specs.NodeViews.{view_operation, view_fragment, view_nodes, Gains, Grows, StandsInFront};
 
 use crate::node::{Label, Node};
@@ -9,8 +9,11 @@ use crate::nodes::directives::push_directives;
 use crate::nodes::push::{close, label_of, push_open};
 use crate::nodes::selection::push_selections;
 use crate::nodes::variables::push_optional_variables;
+use graphql_grammar::OperationType;
 use graphql_nodes::NodeKind;
-use juniper::{Definition, Fragment, Operation, OperationType, ScalarValue, Spanning};
+use juniper_tokens::Spanning;
+use juniper_tree::{Definition, Fragment, Operation};
+use juniper_values::ScalarValue;
 use std::alloc::{AllocError, Global};
 
 /// The nodes of a document: each part of its tree before the parts in it, in the order in which the source writes them

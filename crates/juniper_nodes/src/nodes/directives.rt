@@ -1,7 +1,7 @@
 //! The nodes of arguments and directives.
 ghost use Rattle.std.specs.Prelude.{option_map};
 ghost use Rattle.graphql_nodes.specs.Nodes.{if_present, argument_nodes, arguments_nodes, directive_nodes, directives_nodes};
-ghost use Rattle.juniper.specs.View.{view_argument, view_arguments, view_directive, view_directives};
+ghost use Rattle.juniper_tree.specs.View.{view_argument, view_arguments, view_directive, view_directives};
 ghost use Rattle.juniper_nodes.specs.NodeViews.{view_node, Grows};
 
 use crate::node::{Label, Node};
@@ -9,7 +9,9 @@ use crate::nodes::part::{Part, push_each};
 use crate::nodes::push::{close, push_open};
 use crate::nodes::value::push_value;
 use graphql_nodes::NodeKind;
-use juniper::{Arguments, Directive, InputValue, ScalarValue, Spanning};
+use juniper_tokens::Spanning;
+use juniper_tree::{Arguments, Directive};
+use juniper_values::{InputValue, ScalarValue};
 use std::alloc::AllocError;
 
 fn push_argument<'t, 'a, S: ScalarValue>(

@@ -2,12 +2,13 @@
 ghost use Rattle.std.specs.Prelude.{◌≡◌, ◌∷◌, [], ◌<◌, List, length, option_map, OnErr, IfOk};
 ghost use Rattle.graphql_nodes.specs.Nodes.{Node, over, scalar_node};
 ghost use Rattle.juniper_tokens.specs.Spans.{view_span};
-ghost use Rattle.juniper.specs.View.{view_word};
+ghost use Rattle.juniper_tree.specs.View.{view_word};
 ghost use Rattle.juniper_nodes.specs.NodeViews.{view_label, view_nodes, TellsName, Gains, Grows, StandsInFront, CountsInner};
 
 use crate::node::{Label, Node};
 use graphql_nodes::NodeKind;
-use juniper::{ScalarValue, Span, Spanning};
+use juniper_tokens::{Span, Spanning};
+use juniper_values::ScalarValue;
 use std::alloc::AllocError;
 
 /// Appends a node, as if no part were in it, and returns its index.

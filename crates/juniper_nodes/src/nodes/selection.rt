@@ -1,15 +1,17 @@
 //! The nodes of selections.
 ghost use Rattle.std.specs.Prelude.{option_map};
 ghost use Rattle.graphql_nodes.specs.Nodes.{if_present, alias_nodes, selection_nodes, selections_nodes};
-ghost use Rattle.juniper.specs.View.{view_word, view_selection, view_selections, view_field, view_inline};
+ghost use Rattle.juniper_tree.specs.View.{view_word, view_selection, view_selections, view_field, view_inline};
 ghost use Rattle.juniper_nodes.specs.NodeViews.{view_spread, Grows};
 
 use crate::node::{Label, Node};
 use crate::nodes::directives::{push_directives, push_optional_arguments};
 use crate::nodes::push::{close, label_of, push_leaf, push_open};
 use graphql_nodes::NodeKind;
-use juniper::laws::selections_are_seen;
-use juniper::{Field, FragmentSpread, InlineFragment, ScalarValue, Selection, Spanning};
+use juniper_tokens::Spanning;
+use juniper_tree::laws::selections_are_seen;
+use juniper_tree::{Field, FragmentSpread, InlineFragment, Selection};
+use juniper_values::ScalarValue;
 use std::alloc::AllocError;
 
 #[cycle(selection)]

@@ -2,14 +2,15 @@
 ghost use Rattle.std.specs.Prelude.{◌≡◌, IfOk, map};
 ghost use Rattle.graphql_grammar.specs.Tree.{items_of, fields_of};
 ghost use Rattle.graphql_nodes.specs.Nodes.{value_nodes, items_nodes, fields_nodes};
-ghost use Rattle.juniper.specs.View.{view_value, view_object_field};
+ghost use Rattle.juniper_tree.specs.View.{view_value, view_object_field};
 ghost use Rattle.juniper_nodes.specs.NodeViews.{view_nodes, Grows};
 
 use crate::node::{Label, Node};
 use crate::nodes::push::{close, push_leaf, push_open, push_scalar};
 use graphql_nodes::NodeKind;
-use juniper::laws::values_are_seen;
-use juniper::{InputValue, ScalarValue, Spanning};
+use juniper_tokens::Spanning;
+use juniper_tree::laws::values_are_seen;
+use juniper_values::{InputValue, ScalarValue};
 use std::alloc::{AllocError, Global};
 
 /// The nodes of a value (GraphQL specification, October 2021, section 2.9).

@@ -1,7 +1,7 @@
 //! The nodes of variable definitions.
 ghost use Rattle.std.specs.Prelude.{option_map};
 ghost use Rattle.graphql_nodes.specs.Nodes.{if_present, value_nodes, variable_nodes, variables_nodes};
-ghost use Rattle.juniper.specs.View.{view_value, view_variable, view_variables};
+ghost use Rattle.juniper_tree.specs.View.{view_value, view_variable, view_variables};
 ghost use Rattle.juniper_nodes.specs.NodeViews.{view_node, Grows};
 
 use crate::node::{Label, Node};
@@ -10,7 +10,9 @@ use crate::nodes::part::{Part, push_each};
 use crate::nodes::push::{close, push_leaf, push_open};
 use crate::nodes::value::push_value;
 use graphql_nodes::NodeKind;
-use juniper::{InputValue, ScalarValue, Spanning, VariableDefinition, VariableDefinitions};
+use juniper_tokens::Spanning;
+use juniper_tree::{VariableDefinition, VariableDefinitions};
+use juniper_values::{InputValue, ScalarValue};
 use std::alloc::AllocError;
 
 fn push_default<'t, 'a, S: ScalarValue>(

@@ -2,9 +2,9 @@
 ghost use Rattle.std.specs.Prelude.{IfOk};
 ghost use Rattle.std.specs.Str.{chars};
 ghost use Rattle.juniper_tokens.specs.Errors.{view_fault};
-ghost use Rattle.juniper.specs.View.{view_value};
-ghost use Rattle.juniper.specs.Scalars.{stated};
-ghost use Rattle.juniper.specs.Promise.{IfRefused};
+ghost use Rattle.juniper_tree.specs.View.{view_value};
+ghost use Rattle.juniper_tree.specs.Scalars.{stated};
+ghost use Rattle.juniper_parser.specs.Promise.{IfRefused};
 ghost use Rattle.test_harness.specs.Literals.{BeginsWith, HasNoValue, FirstFault, AreCompared};
 
 use juniper::laws::{lexer_failures_are_reported, one_cut_or_break};

@@ -2,7 +2,7 @@
 ghost use Rattle.std.specs.Prelude.{◌≡◌, None, IfSome, IfOk, IfErr};
 ghost use Rattle.std.specs.Str.{chars};
 ghost use Rattle.juniper_values.specs.Default.{default_content};
-ghost use Rattle.juniper.specs.View.{view_document};
+ghost use Rattle.juniper_tree.specs.View.{view_document};
 ghost use Rattle.test_harness.specs.Affordable.{IsAffordable, IsFirstAbove, IsUnaffordable, NoneAbove};
 
 use juniper::{

@@ -4,12 +4,12 @@ ghost use Rattle.std.specs.Str.{chars};
 ghost use Rattle.graphql_grammar.specs.Tokens.{Located};
 ghost use Rattle.graphql_grammar.specs.Tree as tree;
 ghost use Rattle.graphql_grammar.specs.Tree.{Value};
-ghost use Rattle.juniper.specs.Building.{a_directive, a_field, a_spread, an_inline_fragment, a_variable, an_operation, a_fragment};
-ghost use Rattle.juniper.specs.View.{view_spanned_type, view_word};
+ghost use Rattle.juniper_parser.specs.Building.{a_directive, a_field, a_spread, an_inline_fragment, a_variable, an_operation, a_fragment};
+ghost use Rattle.juniper_tree.specs.View.{view_spanned_type, view_word};
 ghost use Rattle.juniper_tokens.specs.Spans.{view_span};
 ghost use Rattle.juniper_values.specs.Scalar.{Content};
-ghost use Rattle.juniper.specs.Limited.{FailsLimited};
-ghost use Rattle.juniper.specs.Scalars.{default_scalars};
+ghost use Rattle.juniper_documents.specs.Limited.{FailsLimited};
+ghost use Rattle.juniper_tree.specs.Scalars.{default_scalars};
 ghost use Rattle.test_harness.specs.Names.{AreNames, IsNameOf, OptionalArguments, OptionalSet, OptionalValue, OptionalVariables, SelectionSet, SomeDirectives, Unbound};
 ghost use Rattle.test_harness.specs.declared.guide.names.DefinitionNames.{DefinitionNames as Naming};
 

@@ -2,8 +2,8 @@
 ghost use Rattle.std.specs.Prelude.{◌<◌, length, IfOk};
 ghost use Rattle.std.specs.Str.{chars};
 ghost use Rattle.juniper_tokens.specs.Errors.{view_fault};
-ghost use Rattle.juniper.specs.Promise.{IfRefused, IsRefusal};
-ghost use Rattle.juniper.specs.Scalars.{default_scalars};
+ghost use Rattle.juniper_parser.specs.Promise.{IfRefused, IsRefusal};
+ghost use Rattle.juniper_tree.specs.Scalars.{default_scalars};
 ghost use Rattle.test_harness.specs.Documents.{IsDocumentText};
 
 use juniper::{DefaultScalarValue, ParseFailure, Span, parse_document_source};

@@ -1,6 +1,6 @@
 //! A walk over a whole tree.
 ghost use Rattle.std.specs.Prelude.{◌≡◌, ◌++◌, IfOk, OnOk, map};
-ghost use Rattle.juniper.specs.View.{view_definition, view_field, view_selection, view_selections};
+ghost use Rattle.juniper_tree.specs.View.{view_definition, view_field, view_selection, view_selections};
 ghost use Rattle.test_harness.specs.Fields.{texts, fields_of, fields_among, fields_in, field_names};
 
 use juniper::laws::selections_are_seen;

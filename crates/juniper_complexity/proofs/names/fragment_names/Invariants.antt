@@ -1,7 +1,7 @@
 -- The map has the fragments from this index on.
 use Rattle.std.proofs.Common.{map, drop}
 use Rattle.std.specs.List.{position_from}
-use Rattle.juniper.specs.View.{view_definition}
+use Rattle.juniper_tree.specs.View.{view_definition}
 use Rattle.juniper_complexity.specs.Parts.{is_fragment_named}
 use Rattle.juniper_outlines.specs.Names.{Knows}
 use Rattle.juniper_complexity.proofs.names.fragment_names.Given as goal

@@ -1,5 +1,5 @@
 use Rattle.std.proofs.Common.{map}
-use Rattle.juniper.specs.View.{view_definition}
+use Rattle.juniper_tree.specs.View.{view_definition}
 use Rattle.juniper_complexity.proofs.OutlinedOperations.{own_mean}
 use Rattle.juniper_complexity.proofs.operations.operation_complexities.Goals as goal
 

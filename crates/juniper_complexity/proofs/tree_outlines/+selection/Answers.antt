@@ -1,5 +1,5 @@
 use Rattle.std.proofs.Common.{arith}
-use Rattle.juniper.specs.View.{view_directives, view_selections, view_set}
+use Rattle.juniper_tree.specs.View.{view_directives, view_selections, view_set}
 use Rattle.juniper_complexity.specs.Gathered.{Gathers, counted_directives}
 use Rattle.juniper_complexity.specs.Parts.{spreads_of_optional}
 use Rattle.juniper_complexity.specs.device.BySpreads.{own_of_optional}

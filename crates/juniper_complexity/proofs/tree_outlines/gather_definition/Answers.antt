@@ -1,6 +1,6 @@
 use Rattle.std.proofs.Common.{◌∙◌, ap, map, refl}
 use Rattle.std.specs.Prelude.{option_map}
-use Rattle.juniper.specs.View.{view_directives, view_selections, view_variables}
+use Rattle.juniper_tree.specs.View.{view_directives, view_selections, view_variables}
 use Rattle.juniper_complexity.specs.Gathered.{counted_directives, seen_spread}
 use Rattle.juniper_complexity.proofs.OutlineBuilders.{gathers_definition, gathers_operation}
 use Rattle.juniper_complexity.proofs.tree_outlines.gather_definition.Goals as goal

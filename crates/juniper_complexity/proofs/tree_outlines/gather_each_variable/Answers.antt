@@ -1,5 +1,5 @@
 use Rattle.std.proofs.Common.{◌≤◌, length, arith}
-use Rattle.juniper.specs.View.{view_directives}
+use Rattle.juniper_tree.specs.View.{view_directives}
 use Rattle.juniper_complexity.specs.Gathered.{counted_directives}
 use Rattle.juniper_complexity.proofs.OutlineBuilders.{gathers_directives}
 use Rattle.juniper_complexity.proofs.Variables.{counts_none, counts_one_more, counts_all}

@@ -1,5 +1,5 @@
 use Rattle.std.proofs.Common.{refl}
-use Rattle.juniper.specs.View.{view_word, view_directives}
+use Rattle.juniper_tree.specs.View.{view_word, view_directives}
 use Rattle.juniper_complexity.specs.Gathered.{counted_directives}
 use Rattle.juniper_complexity.proofs.OutlineBuilders.{gathers_spread}
 use Rattle.juniper_complexity.proofs.tree_outlines.gather_spread.Goals as goal

@@ -1,7 +1,7 @@
 use Rattle.std.proofs.Common.{◌≡◌, ◌+◌, ◌++◌, ◌∷◌, [], map, take, ap, ◌∙◌, arith}
 use Rattle.std.proofs.lemmas.Grind.{common_steps}
 use Rattle.std.proofs.lemmas.List.{map-append}
-use Rattle.juniper.specs.View.{view_definition}
+use Rattle.juniper_tree.specs.View.{view_definition}
 use Rattle.juniper_outlines.proofs.Public.{take_next}
 use Rattle.juniper_complexity.proofs.ResolvedOutlines.{gathered_more}
 use Rattle.juniper_complexity.proofs.tree_outlines.tree_outlines.Goals as goal

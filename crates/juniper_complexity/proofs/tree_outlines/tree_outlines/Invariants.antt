@@ -1,6 +1,6 @@
 -- The outlines so far are those of the definitions so far.
 use Rattle.std.proofs.Common.{map, take}
-use Rattle.juniper.specs.View.{view_definition}
+use Rattle.juniper_tree.specs.View.{view_definition}
 use Rattle.juniper_complexity.specs.Gathered.{AreGathered}
 use Rattle.juniper_complexity.proofs.tree_outlines.tree_outlines.Given as goal
 

@@ -1,7 +1,7 @@
 use Rattle.std.proofs.Common.{subst, sym}
 use Rattle.std.specs.Str.{chars}
 use Rattle.graphql_nodes.specs.Nodes.{each, document_nodes}
-use Rattle.juniper.specs.Limited.{FailsLimited}
+use Rattle.juniper_documents.specs.Limited.{FailsLimited}
 use Rattle.juniper_flat.specs.Answers.{scalars}
 use Rattle.juniper_flat.proofs.Buildings.{definitions_added, definitions_outlined}
 use Rattle.juniper_flat.proofs.flat.build_nodes.Goals as goal

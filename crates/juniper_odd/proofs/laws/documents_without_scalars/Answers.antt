@@ -1,5 +1,5 @@
 use Rattle.std.specs.Str.{chars}
-use Rattle.juniper.specs.View.{view_document}
+use Rattle.juniper_tree.specs.View.{view_document}
 use Rattle.juniper_odd.specs.ReadBy.{held_content}
 use Rattle.juniper_odd.proofs.WithoutScalars.{accepts_exactly}
 use Rattle.juniper_odd.proofs.laws.documents_without_scalars.Goals as goal

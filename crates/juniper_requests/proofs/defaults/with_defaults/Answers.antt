@@ -5,7 +5,7 @@ use Rattle.std.specs.List.{list_any}
 use Rattle.graphql_grammar.specs.Tokens.{Text}
 use Rattle.juniper_values.specs.Text.{same_text}
 use Rattle.juniper_values.specs.View.{values_in}
-use Rattle.juniper.specs.View.{view_variable}
+use Rattle.juniper_tree.specs.View.{view_variable}
 use Rattle.juniper_requests.specs.Defaults.{WithDefaults, default_in, given_or}
 use Rattle.juniper_requests.specs.device.Seen.{HasSeen}
 use Rattle.juniper_requests.proofs.FirstDefaults.{names, seen_before, not_seen_before, defined_again, defined_first}

@@ -1,5 +1,5 @@
 use Rattle.std.proofs.Common.{map, take}
-use Rattle.juniper.specs.View.{view_variable}
+use Rattle.juniper_tree.specs.View.{view_variable}
 use Rattle.juniper_values.specs.View.{values_in}
 use Rattle.juniper_requests.specs.Defaults.{WithDefaults, AreKept}
 use Rattle.juniper_requests.specs.device.Seen.{HasSeen}

@@ -1,7 +1,7 @@
 use Rattle.std.proofs.Common.{◌≡◌, map, drop}
 use Rattle.std.specs.List.{find}
 use Rattle.std.specs.Str.{chars}
-use Rattle.juniper.specs.View.{view_definition}
+use Rattle.juniper_tree.specs.View.{view_definition}
 use Rattle.juniper_requests.specs.Operations.{is_operation_named}
 use Rattle.juniper_requests.proofs.operations.first_named.Given as goal
 

@@ -1,6 +1,6 @@
 use Rattle.std.proofs.Common.{◌≡◌, map, drop, None, option_map}
-use Rattle.juniper.specs.View.{view_definition}
-use Rattle.juniper.specs.declared.tree.ast.Definition.TheVariants as definition
+use Rattle.juniper_tree.specs.View.{view_definition}
+use Rattle.juniper_tree.specs.declared.ast.Definition.TheVariants as definition
 use Rattle.juniper_requests.proofs.OneOperation.{only_after}
 use Rattle.juniper_requests.proofs.operations.only_one.Given as goal
 

@@ -1,7 +1,7 @@
 use Rattle.std.proofs.Common.{◌≡◌, ◌∙◌, ◌+◌, ℕ, List, Option, ap, max, refl, arith}
 use Rattle.std.specs.Borrow.{Bor}
 use Rattle.std.specs.Prelude.{option_map}
-use Rattle.juniper.specs.View.{view_word}
+use Rattle.juniper_tree.specs.View.{view_word}
 use Rattle.juniper_tokens.specs.declared.span.Spanning.{Spanning}
 use Rattle.juniper_outlines.specs.Complexities.{capped}
 use Rattle.juniper_complexity.specs.Parts.{alias_count}

@@ -1,5 +1,5 @@
 use Rattle.std.proofs.Common.{[], refl}
-use Rattle.juniper.specs.Building.{a_list}
+use Rattle.juniper_parser.specs.Building.{a_list}
 use Rattle.juniper_flat.specs.Builders.{Opens}
 use Rattle.juniper_flat.proofs.Builders.{adds_none}
 use Rattle.juniper_flat.proofs.builder.NodeBuilder.push.Goals as goal

@@ -1,6 +1,6 @@
 use Rattle.std.proofs.Common.{refl}
 use Rattle.graphql_nodes.specs.Nodes.{alias_nodes}
-use Rattle.juniper.specs.View.{view_word}
+use Rattle.juniper_tree.specs.View.{view_word}
 use Rattle.juniper_flat.proofs.Builders.{adds_none, named_text}
 use Rattle.juniper_flat.proofs.builder.NodeBuilder.push_alias.Goals as goal
 

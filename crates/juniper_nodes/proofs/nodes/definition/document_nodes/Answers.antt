@@ -1,6 +1,6 @@
 use Rattle.std.proofs.Common.{◌∙◌, ◌++◌, map, ap, arith}
 use Rattle.graphql_nodes.specs.Nodes.{each, definition_nodes, document_nodes}
-use Rattle.juniper.specs.View.{view_definition}
+use Rattle.juniper_tree.specs.View.{view_definition}
 use Rattle.juniper_nodes.specs.NodeViews.{view_node}
 use Rattle.juniper_nodes.proofs.Rows.{no_part_yet, next_part, no_part}
 use Rattle.juniper_nodes.proofs.nodes.definition.document_nodes.Goals as goal

@@ -1,6 +1,6 @@
 -- The nodes so far are those of the parts so far.
 use Rattle.graphql_nodes.specs.Nodes.{definition_nodes}
-use Rattle.juniper.specs.View.{view_definition}
+use Rattle.juniper_tree.specs.View.{view_definition}
 use Rattle.juniper_nodes.proofs.Rows.{Goes}
 use Rattle.juniper_nodes.proofs.nodes.definition.document_nodes.Given as goal
 

@@ -1,5 +1,5 @@
 use Rattle.graphql_nodes.specs.Nodes.{argument_nodes, arguments_nodes}
-use Rattle.juniper.specs.View.{view_argument}
+use Rattle.juniper_tree.specs.View.{view_argument}
 use Rattle.juniper_nodes.proofs.Growth.{closed, grown_on_error}
 use Rattle.juniper_nodes.proofs.Places.{place_held, kept_on_error}
 use Rattle.juniper_nodes.proofs.Rows.{each_seen}

@@ -1,5 +1,5 @@
 use Rattle.graphql_nodes.specs.Nodes.{directive_nodes, directives_nodes}
-use Rattle.juniper.specs.View.{view_directive}
+use Rattle.juniper_tree.specs.View.{view_directive}
 use Rattle.juniper_nodes.proofs.Growth.{grown_none}
 use Rattle.juniper_nodes.proofs.Rows.{each_seen}
 use Rattle.juniper_nodes.proofs.nodes.directives.push_directives.Goals as goal

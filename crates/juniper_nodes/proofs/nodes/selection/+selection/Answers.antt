@@ -1,6 +1,6 @@
 use Rattle.std.proofs.Common.{arith}
 use Rattle.graphql_nodes.specs.Nodes.{selection_nodes, selections_nodes, optional_nodes}
-use Rattle.juniper.specs.View.{view_selection}
+use Rattle.juniper_tree.specs.View.{view_selection}
 use Rattle.juniper_tokens.specs.Spans.{view_span}
 use Rattle.juniper_nodes.proofs.Growth.{grown, grown_none, closed, grown_on_error}
 use Rattle.juniper_nodes.proofs.Places.{place_held, kept_on_error}

@@ -1,6 +1,6 @@
 -- The nodes so far, and those of the selections that are left, are the nodes of all.
 use Rattle.graphql_nodes.specs.Nodes.{selection_nodes}
-use Rattle.juniper.specs.View.{view_selection}
+use Rattle.juniper_tree.specs.View.{view_selection}
 use Rattle.juniper_nodes.proofs.Rows.{Goes}
 use Rattle.juniper_nodes.proofs.nodes.selection.+selection.Given as goal
 

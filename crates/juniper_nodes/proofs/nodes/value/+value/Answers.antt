@@ -1,6 +1,6 @@
 use Rattle.std.proofs.Common.{map, arith}
 use Rattle.graphql_nodes.specs.Nodes.{value_nodes}
-use Rattle.juniper.specs.View.{view_value, view_object_field}
+use Rattle.juniper_tree.specs.View.{view_value, view_object_field}
 use Rattle.juniper_nodes.proofs.Growth.{closed, grown, grown_on_error}
 use Rattle.juniper_nodes.proofs.Places.{place_held, kept_on_error}
 use Rattle.juniper_nodes.proofs.Rows.{no_part_yet, next_part, no_part}

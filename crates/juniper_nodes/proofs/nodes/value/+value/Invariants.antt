@@ -1,7 +1,7 @@
 -- The nodes so far are those of the parts so far.
 use Rattle.std.proofs.Common.{◌+◌, ◌*◌}
 use Rattle.graphql_nodes.specs.Nodes.{value_nodes}
-use Rattle.juniper.specs.View.{view_value, view_object_field}
+use Rattle.juniper_tree.specs.View.{view_value, view_object_field}
 use Rattle.juniper_nodes.proofs.Rows.{Goes}
 use Rattle.juniper_nodes.proofs.ValueNodes.{field_nodes}
 use Rattle.juniper_nodes.proofs.nodes.value.+value.Given as goal

@@ -4,8 +4,8 @@ use Rattle.graphql_lexical.specs.Cutting.{Lexeme}
 use Rattle.juniper_tokens.specs.Errors.{view_lexer_error}
 use Rattle.juniper_tokens.specs.Gathering.{IfFault, HasLeft, BreaksOff}
 use Rattle.juniper_tokens.specs.Lexing.{LexerState}
-use Rattle.juniper.specs.View.{view_value}
-use Rattle.juniper.specs.Scalars.{stated}
+use Rattle.juniper_tree.specs.View.{view_value}
+use Rattle.juniper_tree.specs.Scalars.{stated}
 use Rattle.test_harness.proofs.Fronts.{no_value_begins, refused_by_lexer}
 use Rattle.test_harness.proofs.guide.compare.literal.Goals as goal
 

@@ -1,6 +1,6 @@
 use Rattle.std.proofs.Common.{refl}
 use Rattle.juniper_values.specs.Default.{default_content}
-use Rattle.juniper.specs.View.{view_document}
+use Rattle.juniper_tree.specs.View.{view_document}
 use Rattle.test_harness.proofs.guide.limiter.parse_affordable.Goals as goal
 
 pub returns-clause-accepted : goal.returns-clause-accepted

@@ -1,6 +1,6 @@
 -- The names so far, and those of the selections that are left, are the names of all.
 use Rattle.std.proofs.Common.{◌≡◌, ◌++◌, drop}
-use Rattle.juniper.specs.View.{view_selections}
+use Rattle.juniper_tree.specs.View.{view_selections}
 use Rattle.test_harness.specs.Fields.{texts, fields_among}
 use Rattle.test_harness.proofs.guide.walk.+fields.Given as goal
 

@@ -1,6 +1,6 @@
 -- The names so far, and those of the definitions that are left, are the names of all.
 use Rattle.std.proofs.Common.{◌≡◌, ◌++◌, drop, map}
-use Rattle.juniper.specs.View.{view_definition}
+use Rattle.juniper_tree.specs.View.{view_definition}
 use Rattle.test_harness.specs.Fields.{texts, field_names}
 use Rattle.test_harness.proofs.guide.walk.field_names.Given as goal
 

@@ -1,6 +1,6 @@
 use Rattle.std.proofs.Common.{◌∙◌}
 use Rattle.graphql_nodes.specs.Nodes.{argument_nodes}
-use Rattle.juniper.specs.View.{view_word}
+use Rattle.juniper_tree.specs.View.{view_word}
 use Rattle.juniper_flat.proofs.Builders.{named_text}
 use Rattle.juniper_flat.proofs.builder.building.BuildingBuilderSourceScalar.argument.Goals as goal
 

@@ -1,6 +1,6 @@
 use Rattle.std.proofs.Common.{◌∙◌}
 use Rattle.graphql_nodes.specs.Nodes.{arguments_nodes, directive_nodes}
-use Rattle.juniper.specs.View.{view_word}
+use Rattle.juniper_tree.specs.View.{view_word}
 use Rattle.juniper_complexity.specs.Gathered.{Keeps}
 use Rattle.juniper_complexity.proofs.Public.{kept_optional}
 use Rattle.juniper_flat.proofs.Builders.{named_text}

@@ -1,7 +1,7 @@
 use Rattle.std.proofs.Common.{subst, sym}
 use Rattle.std.specs.Prelude.{option_map}
 use Rattle.graphql_nodes.specs.Nodes.{arguments_nodes, selection_nodes, selections_nodes, optional_nodes}
-use Rattle.juniper.specs.View.{view_word}
+use Rattle.juniper_tree.specs.View.{view_word}
 use Rattle.juniper_complexity.specs.Gathered.{Keeps, KeepsDirectives}
 use Rattle.juniper_complexity.proofs.Public.{kept_optional}
 use Rattle.juniper_tokens.specs.Spans.{view_span}

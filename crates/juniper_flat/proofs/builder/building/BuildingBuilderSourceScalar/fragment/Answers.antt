@@ -1,7 +1,7 @@
 use Rattle.std.proofs.Common.{ℕ, subst}
 use Rattle.graphql_grammar.specs.Tree as tree
 use Rattle.graphql_nodes.specs.Nodes.{definition_nodes}
-use Rattle.juniper.specs.View.{view_word}
+use Rattle.juniper_tree.specs.View.{view_word}
 use Rattle.juniper_tokens.specs.Spans.{view_span}
 use Rattle.juniper_flat.proofs.Builders.{adds_more, fragment_text}
 use Rattle.juniper_flat.proofs.Buildings.{directives_added, set_added}

@@ -1,5 +1,5 @@
 use Rattle.graphql_nodes.specs.Nodes.{selection_nodes, selections_nodes, optional_nodes}
-use Rattle.juniper.specs.View.{view_word}
+use Rattle.juniper_tree.specs.View.{view_word}
 use Rattle.juniper_flat.proofs.Builders.{named_text}
 use Rattle.juniper_flat.proofs.Buildings.{directives_added}
 use Rattle.juniper_flat.proofs.builder.building.BuildingBuilderSourceScalar.fragment_spread.Goals as goal

@@ -2,7 +2,7 @@ use Rattle.std.proofs.Common.{◌++◌, subst, sym}
 use Rattle.std.specs.Prelude.{option_map}
 use Rattle.graphql_nodes.specs.Nodes.{Label, over, directives_nodes, selection_nodes, selections_nodes, optional_nodes}
 use Rattle.graphql_nodes.specs.declared.kind.NodeKind.TheVariants as kind
-use Rattle.juniper.specs.View.{view_word}
+use Rattle.juniper_tree.specs.View.{view_word}
 use Rattle.juniper_complexity.specs.Gathered.{KeepsDirectives}
 use Rattle.juniper_tokens.specs.Spans.{view_span}
 use Rattle.juniper_flat.specs.Builders.{Adds, HasNoText}

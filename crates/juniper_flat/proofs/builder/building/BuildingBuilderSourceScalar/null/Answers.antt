@@ -1,6 +1,6 @@
 use Rattle.std.proofs.Common.{[], refl}
 use Rattle.graphql_nodes.specs.Nodes.{nodes_at, items_nodes, fields_nodes}
-use Rattle.juniper.specs.Building.{a_list}
+use Rattle.juniper_parser.specs.Building.{a_list}
 use Rattle.juniper_flat.specs.Builders.{Opens}
 use Rattle.juniper_flat.proofs.Builders.{adds_none, unnamed_text}
 use Rattle.juniper_flat.proofs.builder.building.BuildingBuilderSourceScalar.null.Goals as goal

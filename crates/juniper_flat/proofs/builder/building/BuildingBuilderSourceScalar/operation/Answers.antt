@@ -4,7 +4,7 @@ use Rattle.graphql_grammar.specs.Tree as tree
 use Rattle.graphql_nodes.specs.Nodes.{Label, name_of, over, if_present, selections_nodes, directives_nodes}
 use Rattle.graphql_nodes.specs.Nodes.{variables_nodes, definition_nodes}
 use Rattle.graphql_nodes.specs.declared.kind.NodeKind.{NodeKind}
-use Rattle.juniper.specs.View.{view_word}
+use Rattle.juniper_tree.specs.View.{view_word}
 use Rattle.juniper_complexity.specs.Gathered.{GathersVariables}
 use Rattle.juniper_tokens.specs.Spans.{view_span}
 use Rattle.juniper_flat.specs.Builders.{Adds, HasNoText}

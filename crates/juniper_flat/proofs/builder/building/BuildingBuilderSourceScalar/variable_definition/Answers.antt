@@ -1,6 +1,6 @@
 use Rattle.std.proofs.Common.{◌∙◌, subst, sym}
 use Rattle.graphql_nodes.specs.Nodes.{value_nodes, variable_nodes}
-use Rattle.juniper.specs.View.{view_spanned_type, view_word}
+use Rattle.juniper_tree.specs.View.{view_spanned_type, view_word}
 use Rattle.juniper_complexity.specs.Gathered.{Keeps, KeepsDirectives}
 use Rattle.juniper_complexity.proofs.Public.{kept_optional}
 use Rattle.juniper_flat.proofs.Builders.{adds_more, named_text}

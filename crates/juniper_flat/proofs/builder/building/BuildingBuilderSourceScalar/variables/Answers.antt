@@ -1,6 +1,6 @@
 use Rattle.std.proofs.Common.{subst, sym}
 use Rattle.graphql_nodes.specs.Nodes.{variable_nodes, variables_nodes}
-use Rattle.juniper.specs.Building.{BuildsEach}
+use Rattle.juniper_parser.specs.Building.{BuildsEach}
 use Rattle.juniper_complexity.specs.Gathered.{gathered}
 use Rattle.juniper_flat.proofs.Builders.{unnamed_text}
 use Rattle.juniper_flat.proofs.Buildings.{each_added}

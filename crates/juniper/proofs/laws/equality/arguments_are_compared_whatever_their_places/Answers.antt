@@ -1,5 +1,0 @@
-use Rattle.juniper.proofs.SameArguments.{arguments_alike}
-use Rattle.juniper.proofs.laws.equality.arguments_are_compared_whatever_their_places.Goals as goal
-
-pub returns : goal.returns
-returns g c = arguments_alike g.S.PartialEq.eq c.values_are_compared_whatever_their_places.ensures

@@ -1,5 +1,0 @@
-use Rattle.juniper.proofs.Promises.{break_reported}
-use Rattle.juniper.proofs.laws.lexer_failures_are_reported.Goals as goal
-
-pub returns : goal.returns
-returns c = break_reported

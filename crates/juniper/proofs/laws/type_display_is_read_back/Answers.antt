@@ -1,5 +1,0 @@
-use Rattle.juniper.proofs.ReadBack.{type_read_back}
-use Rattle.juniper.proofs.laws.type_display_is_read_back.Goals as goal
-
-pub returns : goal.returns
-returns c = type_read_back

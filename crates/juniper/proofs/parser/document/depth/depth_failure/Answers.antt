@@ -1,5 +1,0 @@
-use Rattle.std.proofs.Common.{rules}
-use Rattle.juniper.proofs.parser.document.depth.depth_failure.Goals as goal
-
-pub returns-then-index : goal.returns-then-index
-returns-then-index c = search rules

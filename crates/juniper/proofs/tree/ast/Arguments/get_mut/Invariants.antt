@@ -1,7 +1,0 @@
-use Rattle.std.proofs.Common.{◌≡◌, drop}
-use Rattle.juniper.specs.Named.{first_named}
-use Rattle.juniper.proofs.tree.ast.Arguments.get_mut.Given as goal
-
-abbrev pub invariant-loop-i : goal.invariant-loop-i
-invariant-loop-i g l = (l.self ≡ l.initial.self) × (first_named l.name l.self.items.items
-    ≡ first_named l.name (drop l.i l.self.items.items))

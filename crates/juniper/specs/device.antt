@@ -1,5 +1,0 @@
-pub mod Seen
-pub mod Steps
-pub mod PartViews
-pub mod Builds
-pub mod Ended

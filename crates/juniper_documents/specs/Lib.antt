@@ -1,0 +1,6 @@
+pub mod Within
+pub mod Limited
+pub mod Sinks
+pub mod Sources
+pub mod device
+pub mod laws

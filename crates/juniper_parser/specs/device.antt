@@ -1,0 +1,4 @@
+pub mod Seen
+pub mod Steps
+pub mod PartViews
+pub mod Builds
