@@ -1,5 +1,5 @@
 -- Which part of a line is shown, and where its caret is.
-use Rattle.std.proofs.Common.{◌≡◌, ◌∙◌, ℕ, zero, suc, ◌-◌, ◌<◌, ◌≤◌, Bool, true, false, [], ◌∷◌, ◌++◌, length, take, drop, map, refl, sym, ap, arith, if◌then◌else◌, length-take, length-drop}
+use Rattle.std.proofs.Common.{◌≡◌, ◌∙◌, ℕ, zero, suc, ◌-◌, ◌<◌, Bool, true, false, [], ◌∷◌, ◌++◌, length, take, drop, map, refl, sym, ap, arith, if◌then◌else◌, length-take, length-drop}
 use Rattle.std.specs.Prelude.{nat_lt}
 use Rattle.std.proofs.Math.Seq.{take-length}
 use Rattle.graphql_lexical.specs.Characters.{Text}
@@ -21,10 +21,6 @@ some_after_bar : (text : Text) → 0 < length text → after_bar (map visible te
 some_after_bar [] some = absurd (omega (arith, some))
 some_after_bar (c ∷ text) some = refl
 
-none_after_bar : (text : Text) → length text ≡ 0 → after_bar (map visible text) ≡ []
-none_after_bar [] none = refl
-none_after_bar (c ∷ text) none = absurd (omega (arith, none))
-
 some_most : (n first : ℕ) (b : Bool) → first < n → 0 < (if b then 80 else n)
 some_most n first true l = omega arith
 some_most n first false l = omega (arith, l)
@@ -42,14 +38,6 @@ some_shown column line l =
       length-drop (first_shown column line) line,
       some_most (length line) (first_shown column line) (nat_lt 120 (length line)) l,
     ))
-
-pub none_shown : (column : ℕ) (line : Text) → length line ≤ first_shown column line
-    → after_bar (map visible (part_shown column line)) ≡ []
-none_shown column line l =
-    let rest = drop (first_shown column line) line in
-    ap (λ (t : Text). after_bar (map visible t)) (part_is column line)
-    ∙ none_after_bar (take (most line) rest)
-    (omega (arith, l, length-take (most line) rest, length-drop (first_shown column line) line))
 
 pub caret_after_bar : (count : ℕ) → after_bar (spaces count ++ 94 ∷ []) ≡ 32 ∷ (spaces count ++ 94 ∷ [])
 caret_after_bar zero = refl

@@ -308,19 +308,20 @@ impl<'a> Lexer<'a> {
         None
     }
 
-    /// Skips ignored tokens, and takes what is there, which may be the last item: a token, or why there is none.
+    /// Skips ignored tokens, and takes what is there, which may be the last item: a token, or why there is none. Without an
+    /// allocator it takes no memory, as `scan_out_of_line`.
     #[inline(always)]
-    pub(crate) fn scan_ahead(&mut self) -> Result<TokenRange, LexFailure>
+    pub(crate) fn scan_ahead(&mut self, alloc: Option<Global>) -> Result<TokenRange, LexFailure>
         ensures source { self.new.source ≡ self.old.source }
         ensures takes { TakesItem (past_ignored self.old) result self.new }
     {
         let mut lexer = self.duplicate();
-        let item = lexer.next_of_any_class(Some(self.alloc));
+        let item = lexer.next_of_any_class(alloc);
         *self = lexer;
         item
     }
 
-    // The same, out of the way. Without an allocator it takes no memory, as `scan_out_of_line`.
+    // The same, out of the way.
     #[inline(never)]
     fn next_of_any_class(&mut self, alloc: Option<Global>) -> Result<TokenRange, LexFailure>
         ensures source { self.new.source ≡ self.old.source }
@@ -341,7 +342,10 @@ impl<'a> Lexer<'a> {
     {
         match self.next_frequent() {
             Some(range) => Ok(range),
-            None => self.scan_ahead(),
+            None => {
+                let alloc = self.alloc;
+                self.scan_ahead(Some(alloc))
+            }
         }
     }
 
@@ -353,12 +357,7 @@ impl<'a> Lexer<'a> {
     {
         match self.next_frequent() {
             Some(range) => Some(range),
-            None => {
-                let mut lexer = self.duplicate();
-                let item = lexer.next_of_any_class(None);
-                *self = lexer;
-                item.ok()
-            }
+            None => self.scan_ahead(None).ok(),
         }
     }
 

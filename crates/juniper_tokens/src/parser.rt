@@ -377,7 +377,8 @@ fn gather(
                 ranges.push(range)
             }
             None => {
-                let range = lexer.scan_ahead()?;
+                let alloc = lexer.allocator();
+                let range = lexer.scan_ahead(Some(alloc))?;
                 if range.kind == Kind::EndOfFile {
                     if ranges.push(range).is_err() || lexer.count_lines(&mut lines).is_err() {
                         return Err(LimitedLexFailure::Lex(LexFailure::Memory));

@@ -40,10 +40,6 @@ wraps_once name ms m = record {
 
 -- ---- equality
 
-size_or : Option ℕ → TypeModifier → Option ℕ
-size_or n NonNull = n
-size_or n (ListOf m) = m
-
 same_size-Decides : (m n : Option ℕ) → Decides (option_eq nat_eq m n) (m ≡ n)
 same_size-Decides None None = ((λ e. refl), (λ e. refl))
 same_size-Decides None (Some n) = ((λ e. absurd (true≢false (sym e))), (λ e. absurd (cc)))

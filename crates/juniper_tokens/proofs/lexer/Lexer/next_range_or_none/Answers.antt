@@ -1,9 +1,7 @@
-use Rattle.std.proofs.Common.{◌∙◌, ap, sym, subst}
+use Rattle.std.proofs.Common.{◌∙◌, sym, subst}
 use Rattle.std.specs.Prelude.{Option}
 use Rattle.juniper_tokens.specs.declared.token_range.TokenRange.{TokenRange}
-use Rattle.juniper_tokens.specs.Lexing.{LexerState}
-use Rattle.juniper_tokens.specs.device.LexingByScan.{past_ignored}
-use Rattle.juniper_tokens.specs.device.Ranges.{TakesItem, range_or_none}
+use Rattle.juniper_tokens.specs.device.Ranges.{range_or_none}
 use Rattle.juniper_tokens.proofs.Ranges.{plain_steps, other_or_none}
 use Rattle.juniper_tokens.proofs.lexer.Lexer.next_range_or_none.Goals as goal
 
@@ -14,12 +12,8 @@ returns-in-Some c =
 
 pub returns-in-None : goal.returns-in-None
 returns-in-None c =
-    let u = c.next_frequent.new.self in
-    let t = c.next_of_any_class-item.new.self in
-    let item = c.next_of_any_class-item.result in
-    let copied = c.duplicate-lexer.ensures in
-    let same = c.next_of_any_class-item.ensures.source ∙ ap (λ (l : LexerState). l.source) copied
-    ∙ c.in-None.ensures.source in
-    let takes = subst (λ (l : LexerState). TakesItem (past_ignored l) item t) copied c.next_of_any_class-item.ensures.takes in
+    let t = c.scan_ahead.new.self in
+    let same = c.scan_ahead.ensures.source ∙ c.in-None.ensures.source in
     subst (λ (found : Option TokenRange). range_or_none c.args.self.now found t) (sym c.ok.ensures.value)
-    (other_or_none c.args.self.now t c.requires same u item c.in-None.ensures.takes takes)
+    (other_or_none c.args.self.now t c.requires same c.next_frequent.new.self c.scan_ahead.result c.in-None.ensures.takes
+    c.scan_ahead.ensures.takes)
