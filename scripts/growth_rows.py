@@ -173,6 +173,7 @@ CALLS = [(("input_value", call), name, text, most) for call, name, text, most in
     (("line_table",), "text past ASCII", WORDS("é\n"), LINEAR),
     # The byte of each character: by `byte_offset`, which is linear, and by a `ByteTable`, whose look-up is linear in the line.
     (("bytes",), "lines", lambda n: times(n // 10, "é a\n"), SQUARE),
+    (("byte_table",), "lines", lambda n: times(n // 10, "é a\n"), LINEAR),
     (("name", "unexpected_token"), "a name", WORDS("a"), LINEAR),
     (("name", "new"), "a long name", WORDS("a"), LINEAR),
     (("scalar", "from_str"), "escapes", TOKEN("String", r"\u00e9\n"), LINEAR),

@@ -8,8 +8,8 @@ pub use graphql_lexical::laws as lexical;
 pub use graphql_lexical::laws::one_cut_or_break;
 pub use juniper_answers::laws as answers;
 pub use juniper_documents::laws::{
-    alike_texts, document_or_fault, lexer_failures_are_reported, one_answer_limited,
-    one_answer_within, one_too_deep, refusals_by_clauses,
+    alike_texts, document_or_fault, lexer_failures_are_reported, limits_are_compared_whole,
+    one_answer_limited, one_answer_within, one_too_deep, refusals_by_clauses,
 };
 pub use juniper_tokens::laws as tokens;
 pub use juniper_tree::laws::{

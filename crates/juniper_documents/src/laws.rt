@@ -1,5 +1,5 @@
 //! Laws of source texts: the contracts of functions that do nothing. A function whose proof needs one calls it.
-ghost use Rattle.std.specs.Prelude.{◌≡◌, ◌⊎◌, ℕ, List};
+ghost use Rattle.std.specs.Prelude.{◌≡◌, ◌⊎◌, ◌↔◌, ℕ, List, IsTrue};
 ghost use Rattle.std.specs.List.{AllZip};
 ghost use Rattle.graphql_lexical.specs.Place.{Span};
 ghost use Rattle.graphql_lexical.specs.Cutting.{Lexeme, Cut};
@@ -12,16 +12,23 @@ ghost use Rattle.juniper_values.specs.Scalar.{Content};
 ghost use Rattle.juniper_parser.specs.Promise.{HasTree, IsRefusal};
 ghost use Rattle.juniper_documents.specs.laws.RefusalClauses.{IsRefusalByClauses, IsRefusalInText};
 ghost use Rattle.juniper_documents.specs.laws.TreeLaws.{FailsAtBreak, IsRefusedAtBreak};
+ghost use Rattle.juniper_documents.specs.declared.document.limited.Limits.{Limits};
 ghost use Rattle.juniper_tree.specs.Scalars.{stated};
 ghost use Rattle.juniper_documents.specs.Sources.{AreRefusedAlike};
 ghost use Rattle.juniper_documents.specs.Within.{HasTooDeep, HasOneResult};
 ghost use Rattle.juniper_documents.specs.Limited.{HasOneResultLimited};
 
+use crate::document::limited::Limits;
 use juniper_values::ScalarValue;
 
 /// If a lexer fails where its source breaks, a parser returns the lexical error at that place.
 pub fn lexer_failures_are_reported()
     ensures { (source : List ℕ) (failed : LexFailure) → FailsAtBreak source failed → IsRefusedAtBreak source (failure_of failed) }
+{}
+
+/// Limits are equal exactly if both of their numbers are.
+pub fn limits_are_compared_whole()
+    ensures { (a b : Limits) → IsTrue (⟦<Limits as PartialEq>⟧.eq a b) ↔ (a ≡ b) }
 {}
 
 /// A source text is a document or is refused at one position with one error, and never both.

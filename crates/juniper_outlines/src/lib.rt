@@ -3,6 +3,7 @@
 #![tactic(auto)]
 
 mod complexity;
+pub mod laws;
 pub mod names;
 mod operations;
 mod outline;

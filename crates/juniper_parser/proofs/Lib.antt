@@ -13,7 +13,7 @@ pub mod CursorFits
 pub mod Lists
 pub mod Readings
 pub mod FailedReadings
-pub mod Trees
+pub mod BuiltTrees
 pub mod Fragments
 pub mod Literals
 pub mod Public

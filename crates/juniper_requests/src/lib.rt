@@ -6,6 +6,7 @@
 mod bytes;
 mod defaults;
 mod fragments;
+pub mod laws;
 mod operations;
 
 pub use bytes::{ByteTable, byte_offset};

@@ -50,6 +50,7 @@ pub fn write_answer(
         "arguments" => documents::write_calls(alloc, out, text, calls),
         "requests" => requests::write_calls(alloc, out, text, calls),
         "bytes" => requests::write_bytes(alloc, out, text),
+        "byte_table" => requests::write_byte_table(alloc, out, text),
         "complexities" => complexities::write_complexities(alloc, out, text),
         "answer" => answers::write_calls(alloc, out, text, calls),
         _ => write_calls(alloc, out, kind, text, calls),

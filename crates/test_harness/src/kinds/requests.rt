@@ -125,3 +125,15 @@ pub fn write_bytes(alloc: Global, out: &mut String, text: &str) -> Written {
     }
     Ok(())
 }
+
+/// `byte_table`: the byte at which each character of the text begins, and the end, by a `ByteTable` alone.
+pub fn write_byte_table(alloc: Global, out: &mut String, text: &str) -> Written {
+    let Ok(table) = ByteTable::new(alloc, text) else {
+        return out.push_str("Memory\n");
+    };
+    for index in 0..text.len().saturating_add(1) {
+        write_optional(out, table.byte_offset(index))?;
+        out.push('\n')?;
+    }
+    Ok(())
+}

@@ -1,7 +1,7 @@
 use Rattle.std.proofs.Common.{ap}
 use Rattle.juniper_tokens.specs.Spans.{view_span}
 use Rattle.juniper_tree.specs.View.{view_word, view_arguments}
-use Rattle.juniper_parser.proofs.Trees.{optional_shows}
+use Rattle.juniper_parser.proofs.BuiltTrees.{optional_shows}
 use Rattle.juniper_tree.proofs.Public.{in_place}
 use Rattle.juniper_parser.proofs.parser.trees.TreesBuilder.directive.Goals as goal
 

@@ -5,7 +5,7 @@ use Rattle.juniper_tokens.specs.Spans.{view_span}
 use Rattle.juniper_tree.specs.View.{view_word, view_arguments, view_selection}
 use Rattle.juniper_tree.specs.declared.ast.Selection.TheVariants.{Field}
 use Rattle.juniper_tree.proofs.Public.{view_of_field}
-use Rattle.juniper_parser.proofs.Trees.{ap₃, optional_shows, directives_show, optional_set_shows}
+use Rattle.juniper_parser.proofs.BuiltTrees.{ap₃, optional_shows, directives_show, optional_set_shows}
 use Rattle.juniper_parser.proofs.parser.trees.TreesBuilder.field.Goals as goal
 
 pub returns : goal.returns

@@ -2,7 +2,7 @@ use Rattle.std.proofs.Common.{ap₂}
 use Rattle.graphql_grammar.specs.Tree as tree
 use Rattle.juniper_tokens.specs.Spans.{view_span}
 use Rattle.juniper_tree.specs.View.{view_word}
-use Rattle.juniper_parser.proofs.Trees.{directives_show, set_shows}
+use Rattle.juniper_parser.proofs.BuiltTrees.{directives_show, set_shows}
 use Rattle.juniper_parser.proofs.parser.trees.TreesBuilder.fragment.Goals as goal
 
 pub returns : goal.returns

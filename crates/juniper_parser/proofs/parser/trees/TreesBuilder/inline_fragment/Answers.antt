@@ -5,7 +5,7 @@ use Rattle.juniper_tokens.specs.Spans.{view_span}
 use Rattle.juniper_tree.specs.View.{view_word, view_selection}
 use Rattle.juniper_tree.specs.declared.ast.Selection.TheVariants.{InlineFragment}
 use Rattle.juniper_tree.proofs.Public.{view_of_inline}
-use Rattle.juniper_parser.proofs.Trees.{ap₃, directives_show, set_shows}
+use Rattle.juniper_parser.proofs.BuiltTrees.{ap₃, directives_show, set_shows}
 use Rattle.juniper_parser.proofs.parser.trees.TreesBuilder.inline_fragment.Goals as goal
 
 pub returns : goal.returns

@@ -2,7 +2,7 @@ use Rattle.std.specs.Prelude.{option_map}
 use Rattle.graphql_grammar.specs.Tree as tree
 use Rattle.juniper_tokens.specs.Spans.{view_span}
 use Rattle.juniper_tree.specs.View.{view_word, view_variables}
-use Rattle.juniper_parser.proofs.Trees.{ap₃, optional_shows, directives_show, set_shows}
+use Rattle.juniper_parser.proofs.BuiltTrees.{ap₃, optional_shows, directives_show, set_shows}
 use Rattle.juniper_parser.proofs.parser.trees.TreesBuilder.operation.Goals as goal
 
 pub returns : goal.returns

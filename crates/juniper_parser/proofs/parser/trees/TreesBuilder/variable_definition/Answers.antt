@@ -1,6 +1,6 @@
 use Rattle.std.proofs.Common.{ap₂}
 use Rattle.juniper_tree.specs.View.{view_word, view_value, view_spanned_type}
-use Rattle.juniper_parser.proofs.Trees.{optional_shows, directives_show}
+use Rattle.juniper_parser.proofs.BuiltTrees.{optional_shows, directives_show}
 use Rattle.juniper_parser.proofs.parser.trees.TreesBuilder.variable_definition.Goals as goal
 
 pub returns : goal.returns

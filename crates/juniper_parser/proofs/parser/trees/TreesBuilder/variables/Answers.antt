@@ -2,7 +2,7 @@ use Rattle.std.proofs.Common.{sym, ◌∙◌}
 use Rattle.juniper_tokens.specs.Spans.{view_span}
 use Rattle.juniper_parser.specs.NamedVariables.{gathered_variables, view_named}
 use Rattle.juniper_parser.proofs.Building.{each_seen}
-use Rattle.juniper_parser.proofs.Trees.{named_views}
+use Rattle.juniper_parser.proofs.BuiltTrees.{named_views}
 use Rattle.juniper_tree.proofs.Public.{in_place}
 use Rattle.juniper_parser.proofs.parser.trees.TreesBuilder.variables.Goals as goal
 
