@@ -3,7 +3,7 @@
 
 .DEFAULT_GOAL := help
 .PHONY: help prove check check-one try format must-fail plant rows refusals growth figures shapes library wrong-bodies install wasm page release \
-    check-release version instructions speed habits style fix graphql-core graphql-js gate
+    check-release version instructions speed habits style fix neighbours gate
 
 help: # list these names
 	@sed -n 's/^\([a-z-]*\): # \(.*\)/\1  \2/p' Makefile
@@ -87,19 +87,20 @@ fix: # format what has a formatter, but for the crates
 	scripts/style --fix
 
 FOUND = usr/lib/python3/dist-packages
-graphql-core: # unpack into FOLDER what Debian has of graphql-core and graphene, and test Python's package beside them
+neighbours: # unpack into FOLDER, an absolute path, what the gate tests beside; FOLDER/variables then sets what names it
 	tests/newest --suite stable python3-graphql-core $(FOLDER)/stable
 	tests/newest python3-graphql-core $(FOLDER)/newest
 	tests/newest python3-graphene python3-graphql-relay python3-dateutil python3-typing-extensions python3-pytest \
 	    python3-iniconfig python3-pluggy python3-packaging python3-pygments python3-pytest-asyncio \
 	    python3-pytest-benchmark python3-pytest-mock $(FOLDER)/others
 	tests/newest --suite bookworm python3-graphql-core $(FOLDER)/tests
-	FIRTHNAPKIN_GRAPHQL_CORE=$(FOLDER)/stable/$(FOUND):$(FOLDER)/newest/$(FOUND) PYTHONPATH=$(FOLDER)/others/$(FOUND) \
-	    FIRTHNAPKIN_GRAPHQL_CORE_TESTS=$(FOLDER)/tests/$(FOUND)/graphql tests/check_library
-
-graphql-js: # unpack into FOLDER what Debian has of graphql-js, and test Node's package beside it
-	tests/newest node-graphql $(FOLDER)
-	FIRTHNAPKIN_GRAPHQL_JS=$(FOLDER)/usr/share/nodejs/graphql tests/check_library
+	tests/newest node-graphql $(FOLDER)/js
+	tests/newest --suite bookworm golang-github-graph-gophers-graphql-go-dev golang-github-vektah-gqlparser-dev $(FOLDER)/go
+	mmdebstrap --arch=arm64 --variant=extract --include=python3,nodejs bookworm $(FOLDER)/arm64
+	@printf 'export %s\n' FIRTHNAPKIN_GRAPHQL_CORE=$(FOLDER)/stable/$(FOUND):$(FOLDER)/newest/$(FOUND) \
+	    PYTHONPATH=$(FOLDER)/others/$(FOUND) FIRTHNAPKIN_GRAPHQL_CORE_TESTS=$(FOLDER)/tests/$(FOUND)/graphql \
+	    FIRTHNAPKIN_GRAPHQL_JS=$(FOLDER)/js/usr/share/nodejs/graphql FIRTHNAPKIN_GO_SOURCES=$(FOLDER)/go/usr/share/gocode/src \
+	    FIRTHNAPKIN_AARCH64=$(FOLDER)/arm64 > $(FOLDER)/variables
 
 gate: # run the gate
 	./test

@@ -73,6 +73,7 @@ for name, file in (
     check(f"the types of the fields of {word}", declared(word), typed)
 check("the size of a node", SIZES["Node"][0], 64)
 check("the size of a token", SIZES["Token"][0], 40)
+check("the size of a complexity", SIZES["Numbers"][0], 24)
 check("the size of limits, which stays", SIZES["Limits"][0], 32)
 
 # ---- numbers

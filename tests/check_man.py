@@ -75,7 +75,7 @@ def check_statuses(check, page, calls):
     described = entries(page["RETURN VALUE"])
     check("the statuses of firthnapkin(3)", [label for label, _ in described], list(comments))
     for label, text in described:
-        wanted = comments[label]
+        wanted = comments.get(label, label)
         check(f"how {label} is described", text[: len(wanted)].lower(), wanted.lower())
         check(f"where the description of {label} goes on", text[len(wanted)] in ".,;", True)
     succeeding = re.findall(r"(firthnapkin_\w+)\(\)", dict(described)["FIRTHNAPKIN_OK"])

@@ -1,0 +1,124 @@
+"""What scripts/definitions compares of sentences: a number in prose that a contract, a definition or the header has, too. Each of these
+sentences stands in the documents that its row names and in no other, and a sentence with such words is in a row."""
+
+import re
+from pathlib import Path
+
+ROOT = Path(__file__).resolve().parent.parent
+
+# For each value the file and the words that have it.
+VALUES = {
+    "default": ("crates/juniper/src/parser/document/limited.rt", r"DEFAULT_DEPTH: usize = (\d+)"),
+    "deepest": ("crates/juniper_flat/src/limits.rt", r"MAX_DEPTH: u32 = (\d+)"),
+    "stack": ("include/firthnapkin.h", r"STACK_SIZE\(depth\) \(\(size_t\)(\d+)"),
+    "level": ("include/firthnapkin.h", r"\(size_t\)(\d+) \* \(depth\)"),
+    "node": ("tests/check_header.py", r'"the size of a node", .*, (\d+)\)'),
+    "token": ("tests/check_header.py", r'"the size of a token", .*, (\d+)\)'),
+    "complexity": ("tests/check_header.py", r'"the size of a complexity", .*, (\d+)\)'),
+    "bits": ("crates/juniper_c/src/count.rt", r"too_long \{ result ≡ SOURCE_TOO_LONG ↔ 2 \^ (\d+) ≤ length source.now"),
+    "nodes": (
+        "crates/juniper_c/src/parse.rt",
+        r"bounds \{ \(nodes_length\.new ≤ (length) source\.now\) × \(texts_length\.new ≤ length",
+    ),
+    "tokens": ("crates/juniper_c/src/tokens.rt", r"tokens_length\.new ≤ length source\.now \+ (\d+)"),
+    "canonical": ("crates/juniper_c/src/canonical.rt", r"buffer_length\.new ≤ (\d+) \* length source\.now"),
+    "long": ("crates/juniper_flat/specs/Excerpts.antt", r"is_long line = nat_lt (\d+) "),
+    "shown": ("crates/juniper_flat/specs/Excerpts.antt", r"then take (\d+) "),
+    "before": ("crates/juniper_flat/specs/Excerpts.antt", r"then column - (\d+) "),
+    "people": ("crates/juniper_flat/specs/Excerpts.antt", r"number = at\.line \+ (\d+);"),
+    "programs": ("docs/man/gqlcheck.1", r" At (\d):"),
+    "of a name": ("crates/juniper/src/parser/items.rt", r"option_copied result ≡ (first)_named name\.now"),
+}
+
+# A sentence, with # for each number; the values that it has; and the documents.
+SENTENCES = [
+    ("rackets (?:may be |to be )?nested # deep", ["default"], "header gqlcheck.1 go rust"),
+    ("a depth of # and any number of tokens", ["default"], "FROM_C GUIDE firthnapkin.3"),
+    ("limited: to # levels by default, # at most", ["default", "deepest"], "README"),
+    ("limit of # runs within|has a limit of #\\.", ["default"], "ASSURANCE"),
+    ("nested deeper than # brackets", ["default"], "SPECIFICATION"),
+    (r"depth ?= ?#, max|`depth` \(#\), `max", ["default"], "node python"),
+    (r"\(d\)` bytes, whatever the source, which is # KiB for #", ["KiB", "default"], "FROM_C"),
+    ("depth (?:is )?above #", ["deepest"], "ASSURANCE DECISIONS"),
+    ("depth is at most #, since|of which there are at most #\\.|depth, from 0 to #,", ["deepest"], "FROM_C go rust"),
+    ("Values nested # deep", ["deepest"], "node python rust"),
+    (r"MAX_DEPTH` \(#\)", ["deepest"], "node python"),
+    ("twice as much: # a level, and #\\.", ["level", "stack"], "MEASUREMENTS"),
+    ("where a level takes at most #\\.", ["half"], "header"),
+    ("A node takes # bytes|children, and take # bytes each|its nodes \\| at most # for each", ["node"], "header FROM_C go node"),
+    ("Document` \\| # for each node", ["node"], "rust"),
+    ("at most # bytes for each node, at most # for each operation", ["node", "complexity"], "types"),
+    ("A token takes # bytes|tokens, # bytes each|`Tokens` \\| # per token", ["token"], "header FROM_C python"),
+    ("asked for \\| # for each operation|limit on them \\| at most # for each", ["complexity"], "node rust"),
+    ("# GiB or more", ["GiB"], "ASSURANCE SPECIFICATION firthnapkin.3 header python"),
+    ("integers up to #|0 to #, or `None`", ["most"], "node python"),
+    ("A number above # is that one|saturate at #\\.", ["largest"], "go node python rust types"),
+    ("Buffers of `#` nodes and `#` bytes always suffice", ["nodes", "nodes"], "header"),
+    ("Buffers as # as the source always suffice", ["nodes"], "ASSURANCE firthnapkin.3"),
+    ("nodes and texts \\| `#` each", ["nodes"], "FROM_C"),
+    ("array of (?:length \\+ |n \\+ )?#(?: tokens| token more than the source has bytes) always suffices", ["tokens"],
+     "ASSURANCE DECISIONS firthnapkin.3 header"),
+    ("tokens, \\d+ bytes each \\| `length \\+ #`", ["tokens"], "FROM_C"),
+    ("A buffer (?:of )?#(?: \\* length bytes| as long as the source) always suffices", ["canonical"], "ASSURANCE firthnapkin.3 header"),
+    ("canonical text \\| `# \\* length`", ["canonical"], "FROM_C"),
+    ("more than # characters (?:the )?#", ["long", "shown"], "SPECIFICATION firthnapkin.3 header"),
+    ("from # before the (?:error's )?column", ["before"], "SPECIFICATION header"),
+    ("[Nn]umbered from #", ["people"], "firthnapkin.3 header types"),
+    ("(?i:`line` and `column`), both counted from #|olumns? for people count from #", ["people"], "DECISIONS FROM_C go node rust"),
+    ("(?:starts?|units), (?:both )?(?:counted )?from #", ["people"], "python types"),
+    ("its line and column, both counted from #|bytes of UTF-8. So each is counted from #", ["programs"], "gqlcanon.1 gqlcheck.1 types"),
+    ("(?:return|find) the # of a name", ["of a name"], "ASSURANCE go node rust"),
+]  # fmt: skip
+# Words of such sentences: they stand in a sentence of the table alone.
+MARKS = re.compile(
+    r"always suffices?\b|rackets [^.]{0,12}nested [\d,]+|a depth of \d+ and|GiB or more|counted from \d|MAX_DEPTH` \(\d"
+)
+WORDS = {"one": "1", "twice": "2", "long": "length"}
+NAMED = {"include/firthnapkin.h": "header", "bindings/node/index.d.ts": "types"}
+
+
+def documents():
+    """The documents: for each short name the text, without what begins a comment's or a man page's lines, and its lines joined."""
+    for path in [
+        *ROOT.glob("*.md"),
+        *ROOT.glob("docs/*.md"),
+        *ROOT.glob("docs/man/*"),
+        *ROOT.glob("bindings/*/README.md"),
+        *map(ROOT.joinpath, NAMED),
+    ]:
+        name = NAMED.get(
+            str(path.relative_to(ROOT)),
+            path.parent.name if path.parent.parent.name == "bindings" else path.name.removesuffix(".md"),
+        )
+        if name != "CHANGELOG":
+            yield name, " ".join(re.sub(r"^ *(?:/?\*+/?|//+|\.[A-Z]+) ", "", path.read_text(encoding="utf-8"), flags=re.M).split())
+
+
+def values():
+    """The values, each as it is written, and those that follow from them."""
+    found = {
+        name: (re.search(words, (ROOT / file).read_text(encoding="utf-8")) or [""] * 2)[1] for name, (file, words) in VALUES.items()
+    }
+    stack, level, default, bits = (int(found[name] or 0) for name in ("stack", "level", "default", "bits"))
+    return {**found, "KiB": str((stack + level * default) // 1024), "half": str(level // 2), "GiB": str(2**bits >> 30),
+            "most": str(2**bits - 2), "largest": str(2**bits - 1)}  # fmt: skip
+
+
+def compared():
+    """For each value, each row and each document whether it holds, and what is said if it doesn't."""
+    texts, wanted = dict(documents()), values()
+    for name, value in wanted.items():
+        yield value, f"no file has the value of {name}"
+    left = texts
+    for sentence, names, places in SENTENCES:
+        begun = re.compile(sentence.replace("#", r"(\d[\d,]*\d|\d|one|twice|long|length|first|last)"))
+        found = {name: [it for found in begun.finditer(text) for it in found.groups() if it] for name, text in texts.items()}
+        numbers = {name: [WORDS.get(it, it.replace(",", "")) for it in those] for name, those in found.items() if those}
+        yield set(numbers) == set(places.split()), f"'{sentence}' is in {' '.join(sorted(numbers))}"
+        for name, those in numbers.items():
+            allowed = [wanted[it] for it in names]
+            yield those == allowed * (len(those) // len(allowed)), f"{name}: '{sentence}' has {those}, not {allowed}"
+        left = {name: begun.sub("", text) for name, text in left.items()}
+    for name, text in left.items():
+        found = MARKS.search(text)
+        yield not found, f"{name}: this is in no row of scripts/sentences.py: {found and text[max(0, found.start() - 60) : found.end() + 30]}"
