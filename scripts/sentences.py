@@ -8,7 +8,7 @@ ROOT = Path(__file__).resolve().parent.parent
 
 # For each value the file and the words that have it.
 VALUES = {
-    "default": ("crates/juniper/src/parser/document/limited.rt", r"DEFAULT_DEPTH: usize = (\d+)"),
+    "default": ("crates/juniper_documents/src/document/limited.rt", r"DEFAULT_DEPTH: usize = (\d+)"),
     "deepest": ("crates/juniper_flat/src/limits.rt", r"MAX_DEPTH: u32 = (\d+)"),
     "stack": ("include/firthnapkin.h", r"STACK_SIZE\(depth\) \(\(size_t\)(\d+)"),
     "level": ("include/firthnapkin.h", r"\(size_t\)(\d+) \* \(depth\)"),
@@ -27,7 +27,7 @@ VALUES = {
     "before": ("crates/juniper_flat/specs/Excerpts.antt", r"then column - (\d+) "),
     "people": ("crates/juniper_flat/specs/Excerpts.antt", r"number = at\.line \+ (\d+);"),
     "programs": ("docs/man/gqlcheck.1", r" At (\d):"),
-    "of a name": ("crates/juniper/src/parser/items.rt", r"option_copied result ≡ (first)_named name\.now"),
+    "of a name": ("crates/juniper_tree/src/items.rt", r"option_copied result ≡ (first)_named name\.now"),
 }
 
 # A sentence, with # for each number; the values that it has; and the documents.

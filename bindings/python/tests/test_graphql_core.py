@@ -42,6 +42,13 @@ class Texts(unittest.TestCase):
                 trees += self.same(text)
         self.assertGreater(trees, 500)
 
+    def test_ends_within_escapes(self) -> None:
+        """graphql-core's lexer raises IndexError at some of them. Its parser reports an earlier error, if there is one."""
+        for before in ("", "} ", "{ a ) ", "{ a(b: ", "{ a(b: 1c) ", "type T { a ) } ", "type T { a: B } "):
+            for escape in ("\\", "\\u", "\\u004", "\\u0041", "\\ud83d", "\\ud83d\\", "\\ud83d\\ude0", "\\u{", "\\u{4"):
+                with self.subTest(before=before, escape=escape):
+                    self.same(f'{before}"{escape}')
+
     def test_no_other_parser_is_asked(self) -> None:
         """Texts that both read alike are read by this package alone."""
         with mock.patch.object(graphql_core, "own_document", side_effect=AssertionError):

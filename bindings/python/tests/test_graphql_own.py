@@ -18,7 +18,7 @@ from graphql_texts import (
     made_texts,
     row_texts,
 )  # skips if graphql-core 3.2 is not installed
-from test_graphql_limits import FAULTY, READ, counts, too_many
+from test_graphql_limits import FAULTY, HAS_OPTION, READ, counts, too_many
 
 import graphql
 from firthnapkin import _graphql_own, graphql_core
@@ -226,6 +226,22 @@ class Order(unittest.TestCase):
             ("#\x01\n{ a { b ) } }", 1, 7), ("extend type T @d(x: [[[", 2, 21),
         ]:  # fmt: skip
             self.assertEqual(answer(graphql_core.parse, text, depth=depth), too_deep(depth, index), text)
+
+    def test_at_the_token_before(self) -> None:
+        """graphql-core says nothing of some names until it has read the next token. A limit that this one is past comes first."""
+        for text, depth, index in [
+            ("schema { a(b: C) }", 1, 10),
+            ("extend schema @d { a { b } }", 1, 21),
+            ("directive @d on a[", 0, 17),
+        ]:
+            own = answer(own_parse, text)
+            self.assertEqual(own[1], "Syntax Error: Unexpected Name 'a'.")
+            self.assertLess(own[2], [index])
+            most = [count for start, count in counts(text) if start < index][-1]
+            self.assertEqual(answer(graphql_core.parse, text, depth=depth), too_deep(depth, index))
+            for parse in (graphql_core.parse, own_parse) if HAS_OPTION else (graphql_core.parse,):
+                self.assertEqual(answer(parse, text, max_tokens=most), (GraphQLSyntaxError, too_many(most), [index]))
+            self.assertEqual(answer(graphql_core.parse, text, depth=depth + 1, max_tokens=most + 1), own)
 
     def test_one_past_both_limits(self) -> None:
         """It is reported as one too many, as by this package's parser."""

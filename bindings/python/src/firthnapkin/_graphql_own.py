@@ -66,8 +66,9 @@ class _LimitedLexer(Lexer):
         first = self.token
         try:
             self._find_past(depth, max_tokens)
-        except GraphQLSyntaxError:
-            # A lexical error. The parser reports it, unless it reports an earlier token.
+        except (GraphQLSyntaxError, IndexError):
+            # A lexical error, which is an IndexError if the text ends within some escapes. The parser reports it, unless it reports
+            # an earlier token.
             pass
         self.token = self.last_token = first
 
