@@ -78,7 +78,7 @@ def check_statuses(check, page, calls):
         wanted = comments.get(label, label)
         check(f"how {label} is described", text[: len(wanted)].lower(), wanted.lower())
         check(f"where the description of {label} goes on", text[len(wanted)] in ".,;", True)
-    succeeding = re.findall(r"(firthnapkin_\w+)\(\)", dict(described)["FIRTHNAPKIN_OK"])
+    succeeding = re.findall(r"(firthnapkin_\w+)\(\)", dict(described).get("FIRTHNAPKIN_OK", ""))
     check("the calls whose success is described", succeeding, [name for name in calls if name != "firthnapkin_version"])
     table = re.search(r" \*   1\. .*?\*/", header, re.S)[0]
     check("which status comes first", lines_of_statuses("\n".join(page["RETURN VALUE"])), lines_of_statuses(table))
