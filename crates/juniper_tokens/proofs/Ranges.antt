@@ -1,6 +1,6 @@
 -- Tokens as ranges of their source.
 use Rattle.std.proofs.Common.{◌≡◌, ℕ, ◌+◌, ◌-◌, ◌<◌, ◌≤◌, ◌^◌, Bool, true, false, List, [], ◌∷◌, ◌++◌, length, take, drop, refl, sym, ap, ap₂, subst, ◌∙◌, arith, length-drop}
-use Rattle.std.specs.Prelude.{Option, Result, Ok, Err, Some, None, ◌↔◌}
+use Rattle.std.specs.Prelude.{Result, Ok, Err, Some, None, ◌↔◌}
 use Rattle.std.specs.Option.{unwrap_or}
 use Rattle.std.specs.Result.{result_ok}
 use Rattle.std.specs.List.{fold}
@@ -29,7 +29,7 @@ use Rattle.juniper_tokens.specs.Positions.{columns_on}
 use Rattle.juniper_tokens.specs.device.Scans.{Finds}
 use Rattle.juniper_tokens.specs.Lexing.{PassesToken, LexerState, GivesItem, GivesToken}
 use Rattle.juniper_tokens.specs.device.LexingByScan.{past_ignored, IsPlaced}
-use Rattle.juniper_tokens.specs.device.Ranges.{range_of, range_slice, range_lexeme, IsRange, TakesRange, TakesItem, TakesPlain, TakesFrequent, GivesRange, GivesRangeItem, range_steps, range_or_none}
+use Rattle.juniper_tokens.specs.device.Ranges.{range_of, range_slice, range_lexeme, IsRange, TakesRange, TakesItem, TakesFrequent, GivesRange, GivesRangeItem, range_steps, range_or_none}
 use Rattle.juniper_tokens.proofs.Offsets.{byte_at_least, byte_at_within, byte_at_on, bytes_between, fits_from}
 use Rattle.juniper_tokens.proofs.LexingByScan.{same_end, fault_by_scan, memory_by_scan}
 use Rattle.juniper_tokens.proofs.Places.{place_on, line_end}
@@ -296,12 +296,6 @@ failure_given s (failures.Fault fault) t h = fault_by_scan s fault t h
 failure_given s failures.Memory t h = memory_by_scan s t h.0 h.1
 
 -- ---- the steps of a lexer that goes past frequent tokens, and else takes what comes next
-
--- A lexer that skipped all ignored tokens takes a plain token or stays.
-pub frequent_taken : (s u t : LexerState) (found : Option TokenRange) → u ≡ past_ignored s
-    → past_ignored u ≡ past_ignored s → TakesPlain u found t → TakesFrequent s found t
-frequent_taken s u t None e p h = ap past_ignored h ∙ p
-frequent_taken s u t (Some r) e p h = subst (λ x. TakesRange x r t) e h
 
 module _ (s t : LexerState) (going : s.ended ≡ false) (same : t.source ≡ s.source) where
   pub plain_steps : (r : TokenRange) → TakesFrequent s (Some r) t → range_steps s (Some (Ok r)) t

@@ -298,12 +298,8 @@ impl<'a> Lexer<'a> {
         ensures ended { self.old.ended ≡ false → self.new.ended ≡ false }
     {
         let class = self.skip_blanks();
-        // Each has code of its own, which is small.
-        if class == ByteClass::NameStart {
-            return self.take_plain(ByteClass::NameStart);
-        }
-        if class == ByteClass::Punctuator {
-            return self.take_plain(ByteClass::Punctuator);
+        if class == ByteClass::NameStart || class == ByteClass::Punctuator {
+            return self.take_plain(class);
         }
         None
     }
