@@ -56,9 +56,11 @@ with_musl_python() {
         'is not a supported wheel'
     CC=$folder/no-compiler runs 'pip installs the wheel with musl' environment/bin/pip install "$1" || return
     same "Python's program with musl" "$(environment/bin/python main.py 2>&1)" "$(shown ../python/README.md)"
-    counted environment/bin/python -B "$here/python"
-    CC=x86_64-linux-musl-gcc runs 'pip builds the source distribution with musl' \
-        environment/bin/pip install --no-build-isolation --force-reinstall "firthnapkin-$version.tar.gz" || return
+    counted environment/bin/python -B "$here/bindings/python/tests"
+    # Its folder had another name when it was built.
+    CPATH=$(environment/bin/python -c 'import sysconfig; print(sysconfig.get_path("include"))') CC=x86_64-linux-musl-gcc \
+        runs 'pip builds the source distribution with musl' environment/bin/pip install --no-build-isolation --force-reinstall \
+        "firthnapkin-$version.tar.gz" || return
     same "Python's program with musl, of the source distribution" "$(environment/bin/python main.py 2>&1)" "$(shown ../python/README.md)"
 }
 
