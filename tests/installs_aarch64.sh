@@ -112,16 +112,25 @@ aarch64_node() {
         same "Node's program on aarch64, built anew" "$(from_folder node main.js 2>&1)" "$(shown "$folder/node/README.md")"
 }
 
-# Rust's library for that target may not be there, so no program is linked: the build script names the archive.
+# The archive that the build script names, and the program, where Rust's library for that target is.
 aarch64_rust() {
+    local target=aarch64-unknown-linux-gnu
     new_folder aarch64-rust
     export CARGO_NET_OFFLINE=true CARGO_TARGET_DIR=$folder/cargo-aarch64
     runs 'cargo init for aarch64' cargo init --quiet --name user --vcs none
     runs 'cargo adds it for aarch64' eval "$(block "$folder/rust.md" 1)" || return
     same 'the archive that the crate links on aarch64' \
-        "$(cargo build -vv --target aarch64-unknown-linux-gnu 2>&1 | sed -n 's/.*rustc-link-search=native=//p')" \
+        "$(cargo build -vv --target $target 2>&1 | sed -n 's/.*rustc-link-search=native=//p')" \
         "$PWD/firthnapkin-$version/native/aarch64"
     same 'the calls of that archive' "$(aarch64-linux-gnu-nm "firthnapkin-$version/native/aarch64/libfirthnapkin.a" | grep -c ' T firthnapkin_')" 8
+    if [ ! -d "$(rustc --print sysroot)/lib/rustlib/$target/lib" ]; then
+        skip "no library of Rust for $target"
+    else
+        program "$folder/rust.md" > src/main.rs
+        export CARGO_TARGET_AARCH64_UNKNOWN_LINUX_GNU_LINKER=aarch64-linux-gnu-gcc
+        export CARGO_TARGET_AARCH64_UNKNOWN_LINUX_GNU_RUNNER="$qemu -L $libraries"
+        same "Rust's program on aarch64" "$(cargo run --quiet --target $target 2>&1)" "$(shown "$folder/rust.md")"
+    fi
 }
 
 # The module, also if it is vendored.

@@ -1,5 +1,5 @@
-# How tests/check_installs tries what a release has for musl. FIRTHNAPKIN_MUSL_PYTHON names a Python that is linked with musl. It is
-# sourced by that script.
+# How tests/check_installs tries what a release has for musl. FIRTHNAPKIN_MUSL_PYTHON names a Python that is linked with musl, and
+# addon-PROCESSOR is a program with musl that has what Node's addon takes: tests/c/addon.c. It is sourced by that script.
 # shellcheck shell=bash
 
 # with_musl VERSION COMMAND ..: as if this machine's Python and Node were programs of this musl: $standing names the program that
@@ -40,17 +40,34 @@ musl_python() {
     same 'the wheel for musl, with glibc' \
         "$("$python" -m $unpack --target glibc "$wheel" 2>&1 | grep -o 'is not a supported wheel')" 'is not a supported wheel'
     if [ -z "${FIRTHNAPKIN_MUSL_PYTHON:-}" ]; then
-        skip 'no Python with musl: FIRTHNAPKIN_MUSL_PYTHON may name one'
+        skip 'no Python with musl: FIRTHNAPKIN_MUSL_PYTHON may name one, which tests/musl_python builds'
     else
-        program ../python/README.md > main.py
-        same "Python's program with musl" "$(PYTHONPATH=$PWD/site "$FIRTHNAPKIN_MUSL_PYTHON" main.py 2>&1)" "$(shown ../python/README.md)"
+        with_musl_python "$wheel"
     fi
 }
 
-# The package for Node, as it was installed. No Node with musl is here, so no addon for it is loaded: with an older musl its install
-# script builds none, and with another it calls the compiler, since this Node doesn't load that addon.
+# with_musl_python WHEEL: a Python with musl takes this wheel and not that for glibc, and passes the package's tests with it. It builds
+# the source distribution.
+with_musl_python() {
+    runs 'an environment is made with musl' "$FIRTHNAPKIN_MUSL_PYTHON" -m venv environment || return
+    program ../python/README.md > main.py
+    same 'the wheel for glibc, with musl' \
+        "$(environment/bin/pip install firthnapkin-*-manylinux_*_x86_64.whl 2>&1 | grep -o 'is not a supported wheel')" \
+        'is not a supported wheel'
+    CC=$folder/no-compiler runs 'pip installs the wheel with musl' environment/bin/pip install "$1" || return
+    same "Python's program with musl" "$(environment/bin/python main.py 2>&1)" "$(shown ../python/README.md)"
+    counted environment/bin/python -B "$here/bindings/python/tests"
+    # Its folder had another name when it was built.
+    CPATH=$(environment/bin/python -c 'import sysconfig; print(sysconfig.get_path("include"))') CC=x86_64-linux-musl-gcc \
+        runs 'pip builds the source distribution with musl' environment/bin/pip install --no-build-isolation --force-reinstall \
+        "firthnapkin-$version.tar.gz" || return
+    same "Python's program with musl, of the source distribution" "$(environment/bin/python main.py 2>&1)" "$(shown ../python/README.md)"
+}
+
+# The package for Node, as it was installed. No Node with musl is here: with an older musl its install script builds no addon, and with
+# another it calls the compiler, since this Node doesn't load the addon that is there. That is loaded by the program in Node's place.
 musl_node() {
-    local build=node_modules/firthnapkin/build.js goes_on=''
+    local build=node_modules/firthnapkin/build.js goes_on='' addon runner
     new_folder musl-node
     runs 'npm init for musl' npm init --yes
     runs 'npm installs it for musl, too' npm install "firthnapkin-$version.tgz" || return
@@ -61,9 +78,19 @@ musl_node() {
     if [ -e "$folder/called" ]; then fails "Node's install script calls a compiler with an older musl"; else passes; fi
     with_musl 1.2.0 node -r ./standing.js $build > "$folder/output"
     if [ -e "$folder/called" ]; then passes; else fails "Node's install script with musl: $(tail -n 3 "$folder/output")"; fi
+    for addon in x86_64/firthnapkin-musl.node aarch64/firthnapkin-arm64-musl.node; do
+        runner=''
+        if [ ! -x "$here/addon-${addon%/*}" ]; then
+            skip "no program that loads ${addon#*/}"
+        elif [ "${addon%/*}" = aarch64 ] && ! runner=$(command -v qemu-aarch64-static || command -v qemu-aarch64); then
+            skip "no qemu-aarch64-static, so ${addon#*/} is not loaded"
+        else
+            counted $runner "$here/addon-${addon%/*}" "node_modules/firthnapkin/${addon#*/}"
+        fi
+    done
 }
 
-# A target's library may not be there, so no program is linked: the build script names the archive.
+# The archive that the build script names, and the program, where Rust's library for that target is.
 musl_rust() {
     local target=x86_64-unknown-linux-musl
     new_folder musl-rust

@@ -42,3 +42,16 @@ takes() {
         grep -vx -e _GLOBAL_OFFSET_TABLE_ -e malloc -e realloc -e free -e memcpy -e memmove -e memset -e memcmp -e bcmp)
     installed "$beyond" '' "what $1 takes"
 }
+
+# suite_of_rust TARGET: the crate's tests for a target, whose programs run here, or by the runner that cargo is told.
+suite_of_rust() {
+    if ! command -v cargo > "$folder/found"; then
+        skip 'no cargo'
+    elif [ ! -d "$(rustc --print sysroot)/lib/rustlib/$1/lib" ]; then
+        skip "no library of Rust for $1"
+    else
+        CARGO_TARGET_DIR=$folder/cargo tested "cargo test for $1" '^test .*\.\.\. ok$' '^test .*\.\.\. FAILED$' \
+            in_folder "$root/bindings/rust" cargo test --offline --target "$1" -- ${FIRTHNAPKIN_ROWS:+--include-ignored}
+        grep '^test .*\.\.\. ignored' "$folder/output"
+    fi
+}

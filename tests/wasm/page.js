@@ -2,7 +2,8 @@
 // Tests the page of docs/playground and the ES module in a headless Chromium: what they show and return is compared with the package
 // over Node's addon. The last line is 'N passed, M failed'.
 //
-//     node tests/wasm/page.js CHROMIUM MODULE    the program, and firthnapkin.wasm
+//     node tests/wasm/page.js CHROMIUM MODULE          the program, and firthnapkin.wasm, of which both are made
+//     node tests/wasm/page.js CHROMIUM PACKAGE PAGE    those of a release: the folders of Node's package and of the page
 "use strict";
 
 const { execFileSync } = require("child_process");
@@ -14,8 +15,8 @@ const { pathToFileURL } = require("url");
 const { Browser } = require("./chromium");
 
 const ROOT = path.join(__dirname, "..", "..");
-const firthnapkin = require(path.join(ROOT, "bindings", "node"));
-const [program, wasm] = process.argv.slice(2);
+const [program, given, released] = process.argv.slice(2);
+const firthnapkin = require(released ? path.resolve(given) : path.join(ROOT, "bindings", "node"));
 let [passed, failed] = [0, 0];
 
 function expect(what, found, wanted) {
@@ -185,7 +186,7 @@ async function testColors(page) {
 }
 
 async function testPage(browser, folder) {
-  bundle("page", folder, wasm);
+  if (!released) bundle("page", folder, given);
   const page = await browser.open(pathToFileURL(path.join(folder, "index.html")).href);
   await page.until(`document.querySelector("#status").textContent.startsWith("A document")`);
   expect("the version", await page.evaluate(`document.querySelector("#version").textContent`), `Version ${firthnapkin.version}.`);
@@ -196,8 +197,10 @@ async function testPage(browser, folder) {
 
 // The ES module, with the module beside it, over HTTP.
 async function testModule(browser, folder) {
-  fs.copyFileSync(wasm, path.join(folder, "firthnapkin.wasm"));
-  bundle("module", path.join(folder, "firthnapkin.mjs"));
+  if (!released) {
+    fs.copyFileSync(given, path.join(folder, "firthnapkin.wasm"));
+    bundle("module", path.join(folder, "firthnapkin.mjs"));
+  }
   const types = { ".mjs": "text/javascript", ".wasm": "application/wasm" };
   const server = http.createServer((request, response) => {
     const type = types[path.extname(request.url)];
@@ -226,8 +229,8 @@ async function main() {
   const folder = fs.mkdtempSync(path.join(os.tmpdir(), "playground-"));
   const browser = new Browser(program);
   try {
-    await testPage(browser, folder);
-    await testModule(browser, folder);
+    await testPage(browser, released ? path.resolve(released) : folder);
+    await testModule(browser, released ? path.resolve(given) : folder);
   } catch (error) {
     expect("the tests", String(error), "no error");
   } finally {

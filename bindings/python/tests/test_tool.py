@@ -1,5 +1,6 @@
 """The tool for people, `python -m firthnapkin`, as a process: what it writes, and its exit statuses."""
 
+import errno
 import json
 import os
 import pty
@@ -263,7 +264,7 @@ class Files(Tool):
         found = self.run_tool("check", "d")
         self.assertEqual((found.returncode, found.stdout), (2, b""))
         self.assertTrue(found.stderr.startswith(b"d/d/d/"))
-        self.assertTrue(found.stderr.endswith(b"d: File name too long\n"))
+        self.assertTrue(found.stderr.endswith(f"d: {os.strerror(errno.ENAMETOOLONG)}\n".encode()))
 
     def test_standard_input(self) -> None:
         found = self.run_tool("check", "-", "-", given=BAD)
