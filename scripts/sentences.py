@@ -52,7 +52,7 @@ SENTENCES = [
     ("asked for \\| # for each operation|limit on them \\| at most # for each", ["complexity"], "node rust"),
     ("# GiB or more", ["GiB"], "ASSURANCE SPECIFICATION firthnapkin.3 header python"),
     ("integers up to #|0 to #, or `None`", ["most"], "node python"),
-    ("A number above # is that one|saturate at #\\.", ["largest"], "go node python rust types"),
+    ("aturate at #\\.", ["largest"], "go node python rust types"),
     ("Buffers of `#` nodes and `#` bytes always suffice", ["nodes", "nodes"], "header"),
     ("Buffers as # as the source always suffice", ["nodes"], "ASSURANCE firthnapkin.3"),
     ("nodes and texts \\| `#` each", ["nodes"], "FROM_C"),

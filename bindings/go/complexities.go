@@ -31,7 +31,7 @@ import (
 	"unsafe"
 )
 
-// Complexity is how large an operation is with every fragment expanded. A number above 1<<32 - 1 is that one. They are those of the
+// Complexity is how large an operation is with every fragment expanded. Numbers saturate at 1<<32 - 1. They are those of the
 // source alone: no schema gives a field a weight, equal fields aren't merged, and @skip and @include leave nothing out.
 type Complexity struct {
 	Fields     uint32 // the fields, at every depth

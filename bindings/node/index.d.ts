@@ -124,7 +124,7 @@ export interface Part extends Shown {
 }
 
 /**
- * How large an operation is with every fragment expanded. A number above 4294967295 is that one. They are those of the source alone:
+ * How large an operation is with every fragment expanded. Numbers saturate at 4294967295. They are those of the source alone:
  * no schema gives a field a weight, equal fields aren't merged, and `@skip` and `@include` leave nothing out.
  */
 export interface Complexity {

@@ -9,7 +9,7 @@ use std::fmt::Write;
 /// How many numbers an operation has.
 pub(crate) const NUMBERS: usize = 5;
 
-/// How large an operation is with every fragment expanded. A number above [`u32::MAX`] is that one. They are those of the source
+/// How large an operation is with every fragment expanded. Numbers saturate at [`u32::MAX`]. They are those of the source
 /// alone: no schema gives a field a weight, equal fields aren't merged, and `@skip` and `@include` leave nothing out.
 #[repr(C)]
 #[derive(Clone, Copy, Debug, Default, PartialEq, Eq, Hash)]

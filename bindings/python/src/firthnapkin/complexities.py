@@ -13,7 +13,7 @@ _DEFINITION = struct.Struct("=I")
 
 
 class Complexity(NamedTuple):
-    """How large an operation is with every fragment expanded. A number above 4294967295 is that one.
+    """How large an operation is with every fragment expanded. Numbers saturate at 4294967295.
 
     The numbers are those of the text alone: no schema gives a field a weight, equal fields aren't merged, and `@skip` and
     `@include` leave nothing out.
