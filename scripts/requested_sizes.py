@@ -14,7 +14,7 @@ SIZES = {
         ("items.reserve_exact(expected) | if items.is_empty() {", GUESS),
         ("items.reserve(1)", ONE),
     ],
-    ("juniper_parser/src/parser/lists.rt", "expected"): [("if is_last { 1 } else { FEW }", GUESS)],
+    ("juniper_parser/src/parser/lists.rt", "expected_items"): [("if is_last { 1 } else { FEW }", GUESS)],
     ("juniper_parser/src/parser/selection.rt", "expected_selections"): [
         ("if next_is(tokens, Kind::CurlyClose) { 1 } else if tokens.expected() < MANY_TOKENS { 3 } else { 6 }", GUESS)
     ],

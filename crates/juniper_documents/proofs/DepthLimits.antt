@@ -51,10 +51,10 @@ use Rattle.juniper_documents.proofs.Promises.{lexical_reported}
 use Rattle.juniper_documents.proofs.Refusals.{by_clauses}
 use Rattle.juniper_documents.proofs.Sources.{either_refused, never_both_refused, refusal_of}
 
-same_number : (a b : ℕ) → a ≡ b → (a == b) ≡ true
+pub same_number : (a b : ℕ) → a ≡ b → (a == b) ≡ true
 same_number a b e = grind arith
 
-other_number : (a b : ℕ) → a < b → (a == b) ≡ false
+pub other_number : (a b : ℕ) → a < b → (a == b) ≡ false
 other_number a b l = grind arith
 
 -- Tokens are nested no deeper than a number, or one of them is the first that is.
@@ -83,7 +83,7 @@ module _ (depth : ℕ) (ts : List Lexeme) where
       (λ here. shallow_or_deeper_from (us ++ t ∷ []) vs (e ∙ sym (append_assoc us (t ∷ []) vs))
       (subst ShallowBefore (sym (length-append us (t ∷ []) ∙ omega arith)) (one_more (length us) before here)))
 
-  shallow_or_deeper : ShallowOrDeeper
+  pub shallow_or_deeper : ShallowOrDeeper
   shallow_or_deeper = shallow_or_deeper_from [] ts refl (λ j l. absurd (omega (arith, l)))
 
 module _ {C : Type 0} (S : Scalars C Error) (depth : ℕ) (source : List ℕ) where

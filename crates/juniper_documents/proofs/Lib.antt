@@ -6,3 +6,10 @@ pub mod DepthLimits
 pub mod BothLimits
 pub mod StreamedLimits
 pub mod Sinks
+pub mod TypePrefixes
+pub mod LiteralTokens
+pub mod LiteralEnds
+pub mod LiteralSources
+pub mod LiteralAnswers
+pub mod LiteralLimits
+pub mod LiteralDecides

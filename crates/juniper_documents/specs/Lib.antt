@@ -1,5 +1,6 @@
 pub mod Within
 pub mod Limited
+pub mod Literals
 pub mod Sinks
 pub mod Sources
 pub mod device

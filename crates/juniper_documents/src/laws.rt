@@ -1,5 +1,5 @@
 //! Laws of source texts: the contracts of functions that do nothing. A function whose proof needs one calls it.
-ghost use Rattle.std.specs.Prelude.{◌≡◌, ◌⊎◌, ◌↔◌, ℕ, List, IsTrue};
+ghost use Rattle.std.specs.Prelude.{◌≡◌, ◌⊎◌, ◌↔◌, ℕ, Bool, List, IsTrue};
 ghost use Rattle.std.specs.List.{AllZip};
 ghost use Rattle.graphql_lexical.specs.Place.{Span};
 ghost use Rattle.graphql_lexical.specs.Cutting.{Lexeme, Cut};
@@ -17,6 +17,8 @@ ghost use Rattle.juniper_tree.specs.Scalars.{stated};
 ghost use Rattle.juniper_documents.specs.Sources.{AreRefusedAlike};
 ghost use Rattle.juniper_documents.specs.Within.{HasTooDeep, HasOneResult};
 ghost use Rattle.juniper_documents.specs.Limited.{HasOneResultLimited};
+ghost use Rattle.graphql_grammar.specs.Grammar.{IsLocated, IsType, IsValue};
+ghost use Rattle.juniper_documents.specs.Literals.{HasOneLiteralResult, NamesTypeError, NamesValueError};
 
 use crate::document::limited::Limits;
 use juniper_values::ScalarValue;
@@ -69,4 +71,15 @@ pub fn alike_texts<S: ScalarValue>()
         → HasTree (stated S.reading S.of_bool) a x → (y : List (Definition Content)) × HasTree (stated S.reading S.of_bool) b y × SameDocument x y }
     ensures refused { (a b : List ℕ) (ts us : List Lexeme) (f : Fault) → Cut a ts → Cut b us → AllZip Alike ts us
         → IsRefusal (stated S.reading S.of_bool) a f → (g : Fault) × IsRefusal (stated S.reading S.of_bool) b g × AreRefusedAlike (stated S.reading S.of_bool) ts us f g }
+{}
+
+/// Within a limit on nesting, a source text is one value, is refused at one position with one error, or has a token that is
+/// nested too deep: exactly one of these.
+pub fn one_value_result<S: ScalarValue>()
+    ensures { (free : Bool) (depth : ℕ) (source : List ℕ) → HasOneLiteralResult (IsLocated (IsValue (stated S.reading S.of_bool) free)) depth source (NamesValueError (stated S.reading S.of_bool) free) }
+{}
+
+/// The same of one type.
+pub fn one_type_result()
+    ensures { (depth : ℕ) (source : List ℕ) → HasOneLiteralResult (IsLocated IsType) depth source NamesTypeError }
 {}

@@ -19,7 +19,7 @@ ghost use Rattle.juniper_parser.specs.device.Steps.{cursor};
 
 use crate::document::depth::depth_failure;
 use crate::document::limited::{LimitFailure, Limits};
-use juniper_parser::{Builder, Gather, expected, next_is, parse_definition};
+use juniper_parser::{Builder, Gather, expected_items, next_is, parse_definition};
 use juniper_tokens::{Cursor, Kind, ParseFailure, SourceText, check_tokens};
 use juniper_values::ScalarValue;
 use std::alloc::Global;
@@ -91,7 +91,7 @@ fn build_definitions<S: ScalarValue, B: Builder<S>>(
     loop {
         let definition = parse_definition::<S, B>(tokens, builder)?;
         let is_last = next_is(tokens, Kind::EndOfFile);
-        definitions.gather(definition, expected(is_last))?;
+        definitions.gather(definition, expected_items(is_last))?;
         if is_last {
             return Ok(definitions);
         }

@@ -12,7 +12,7 @@ ghost use Rattle.juniper_tree.specs.Scalars.{stated};
 ghost use Rattle.juniper_parser.specs.device.Steps.{cursor};
 
 use crate::parser::builder::{Builder, Gather};
-use crate::parser::lists::{expected, many};
+use crate::parser::lists::{expected_items, many};
 use crate::parser::next::{expect, next_is};
 use crate::parser::value::parse_value;
 use juniper_tokens::{Cursor, Kind, ParseFailure};
@@ -170,7 +170,7 @@ fn parse_directive_list<S: ScalarValue, B: Builder<S>>(
     loop {
         let directive = parse_directive::<S, B>(tokens, builder)?;
         let has_more = next_is(tokens, Kind::At);
-        items.gather(directive, expected(!has_more))?;
+        items.gather(directive, expected_items(!has_more))?;
         if !has_more {
             return Ok(Some(items));
         }

@@ -47,9 +47,11 @@ fn give_up<T: Drop>(_item: T, error: AllocError) -> Result<(), AllocError>
     Err(error)
 }
 
-/// The expected length of a list whose first item has just been read.
+/// The expected length of a list whose first item has just been read: at least one.
 #[inline(always)]
-pub fn expected(is_last: bool) -> usize {
+pub fn expected_items(is_last: bool) -> usize
+    ensures { 0 < result }
+{
     if is_last { 1 } else { FEW }
 }
 
@@ -61,7 +63,7 @@ macro_rules! many {
             $items,
             $item,
             $close,
-            $crate::parser::lists::expected($crate::parser::next::next_is($tokens, $close))
+            $crate::parser::lists::expected_items($crate::parser::next::next_is($tokens, $close))
         )
     };
     ($tokens:ident, $items:expr, $item:expr, $close:expr, $expected:expr) => {{
@@ -86,7 +88,7 @@ macro_rules! any {
             }
             let item = $item?;
             let is_last = $crate::parser::next::next_is($tokens, $close);
-            items.gather(item, $crate::parser::lists::expected(is_last))?;
+            items.gather(item, $crate::parser::lists::expected_items(is_last))?;
         }
     }};
 }

@@ -33,10 +33,13 @@ pub fn parse_type<'a>(parser: &mut Parser<'a>) -> ParseResult<Type<&'a str>>
     result
 }
 
-/// `Type = Name "!"? | "[" Type "]" "!"?`
+/// Parses the longest prefix of the tokens that is a type, and takes it (GraphQL specification, October 2021, section
+/// 2.11): `Type = Name "!"? | "[" Type "]" "!"?`
+///
+/// Fails as `parse_type` does, and leaves the same tokens.
 #[cycle(types)]
 #[tactic(auto, using(juniper_tokens::proofs::Public::goes_further))]
-pub(crate) fn parse_any_type<W: SourceText + NameText + Drop, M: Feed>(
+pub fn parse_any_type<W: SourceText + NameText + Drop, M: Feed>(
     tokens: &mut Cursor<'_, W, M>,
 ) -> ParseResult<Type<W>>
     ensures gives { Gives (view_located (type_of W.characters)) result (left tokens.new) (type_read (left tokens.old)) }

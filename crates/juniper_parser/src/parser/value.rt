@@ -81,11 +81,15 @@ fn parse_value_or<S: ScalarValue, B: Builder<S>, F: Drop + From<ParseFailure>>(
     Ok(parse_value::<S, B>(tokens, builder, is_const)?)
 }
 
+/// Builds the prefix of the tokens that is a value, and takes it (GraphQL specification, October 2021, section 2.9):
 /// `Value(c) = a scalar token that the scalar type reads | Name | "$" Name where c is free
 ///           | "[" Value(c)* "]" | "{" (Name ":" Value(c))* "}"`
+///
+/// The value is constant, and has no variables, if `is_const`. Fails as `parse_value_literal` does, and leaves the same
+/// tokens. After an error some parts may have been built.
 #[cycle(value)]
 #[tactic(auto, using(crate::proofs::Readings::value_is), unfolding(graphql_grammar::specs::device::Productions::value))]
-pub(crate) fn parse_value<S: ScalarValue, B: Builder<S>>(
+pub fn parse_value<S: ScalarValue, B: Builder<S>>(
     tokens: &mut Cursor<'_, B::Name, B::Feed>,
     builder: &mut B,
     is_const: bool,
