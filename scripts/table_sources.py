@@ -53,7 +53,7 @@ def compared(tables):
     for name, places in NUMBERS.items():
         there = {plain(word): int(number) for place in places for word, number in found(*place)}
         numbers = {word: row["number"] for word, row in named[name].items()}
-        differing = sorted(it[0] for it in there.items() ^ numbers.items())
+        differing = sorted({word for word, _ in there.items() ^ numbers.items()})
         yield not differing, f"tables.toml: the definitions have other {name}: {', '.join(differing)}"
     for name, place in ORDERS.items():
         # The end of the source is the last kind of a token, and has the first number.
