@@ -1,5 +1,5 @@
-"""Compares tables.toml with the definitions in crates/, for scripts/tables: numbers, order, the texts of punctuators, and which details
-have a character. The code is proved to have the definitions' numbers. A kind of literal is named by the code alone."""
+"""Compares tables.toml with the definitions in crates/, for scripts/tables: numbers, order, the texts of punctuators, and which
+details have a character. The code is proved to have the definitions' numbers. A kind of literal is named by the code alone."""
 
 import re
 from pathlib import Path

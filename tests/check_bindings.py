@@ -1,6 +1,6 @@
 #!/usr/bin/env python3
-"""Compares what the bindings repeat with include/firthnapkin.h: the fields of nodes, tokens and errors, the depths, the stack that a
-call takes, and the limits and their defaults. scripts/tables compares the rest. The last line is 'N passed, M failed'.
+"""Compares what the bindings repeat with include/firthnapkin.h: the fields of nodes, tokens and errors, the depths, the stack that
+a call takes, and the limits and their defaults. scripts/tables compares the rest. The last line is 'N passed, M failed'.
 
     tests/check_bindings.py
 """
