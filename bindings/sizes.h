@@ -19,7 +19,9 @@ typedef struct {
 
 /* What each number counts, in that order. */
 static inline const char *size_name(size_t number) {
+    /* tables.toml: complexity as a list */
     static const char *const names[SIZES] = {"fields", "aliases", "directives", "root fields", "levels of fields"};
+    /* tables.toml: end */
     return names[number];
 }
 

@@ -31,8 +31,10 @@ extern "C" {
 
 /* The limits of a call. A later version may give a reserved word a meaning, in which 0 is no limit. */
 typedef struct {
-    uint32_t depth;       /* how deep brackets may be nested: 0 to FIRTHNAPKIN_MAX_DEPTH */
-    uint32_t tokens;      /* how many tokens a source may have, its end not counted; UINT32_MAX is no limit */
+    /* tables.toml: limits as fields */
+    uint32_t depth;  /* how deep brackets may be nested: 0 to FIRTHNAPKIN_MAX_DEPTH */
+    uint32_t tokens; /* how many tokens a source may have, its end not counted; UINT32_MAX is no limit */
+    /* tables.toml: end */
     uint32_t reserved[6]; /* 0 */
 } firthnapkin_limits;
 
@@ -58,6 +60,7 @@ typedef struct {
  *
  * FIRTHNAPKIN_OUT_OF_MEMORY may be returned in place of lines 5 to 10. */
 enum firthnapkin_status {
+    /* tables.toml: statuses */
     FIRTHNAPKIN_OK = 0,                /* success */
     FIRTHNAPKIN_SYNTAX_ERROR = 1,      /* the source is UTF-8, and has a syntax error */
     FIRTHNAPKIN_NOT_UTF8 = 2,          /* the source is not UTF-8 */
@@ -70,36 +73,39 @@ enum firthnapkin_status {
     FIRTHNAPKIN_INVALID_ERROR = 9,     /* the error that was given has no words, or no lines, in this source */
     FIRTHNAPKIN_UNKNOWN_FRAGMENT = 10, /* the source is a document, and a spread names no fragment of it */
     FIRTHNAPKIN_FRAGMENT_CYCLE = 11    /* the source is a document, and a spread is within the fragment that it names */
+    /* tables.toml: end */
 };
 
 /* The kind of a node. The kinds of literals are last. */
 enum firthnapkin_kind {
-    FIRTHNAPKIN_QUERY = 0,
-    FIRTHNAPKIN_MUTATION = 1,
-    FIRTHNAPKIN_SUBSCRIPTION = 2,
-    FIRTHNAPKIN_FRAGMENT_DEFINITION = 3,
+    /* tables.toml: kinds */
+    FIRTHNAPKIN_QUERY = 0,                /* an operation that only reads */
+    FIRTHNAPKIN_MUTATION = 1,             /* an operation that writes */
+    FIRTHNAPKIN_SUBSCRIPTION = 2,         /* a long-lived operation */
+    FIRTHNAPKIN_FRAGMENT_DEFINITION = 3,  /* the definition of a fragment */
     FIRTHNAPKIN_VARIABLE_DEFINITIONS = 4, /* the variable definitions of an operation */
     FIRTHNAPKIN_VARIABLE_DEFINITION = 5,  /* a variable definition, by its name */
     FIRTHNAPKIN_TYPE = 6,                 /* the type of a variable */
-    FIRTHNAPKIN_FIELD = 7,
-    FIRTHNAPKIN_ALIAS = 8,            /* the alias of a field */
-    FIRTHNAPKIN_FRAGMENT_SPREAD = 9,  /* the use of a fragment by its name */
-    FIRTHNAPKIN_INLINE_FRAGMENT = 10, /* a fragment without a name; its name is its type condition */
-    FIRTHNAPKIN_DIRECTIVE = 11,
-    FIRTHNAPKIN_ARGUMENTS = 12, /* the arguments of a field or a directive */
-    FIRTHNAPKIN_ARGUMENT = 13,  /* an argument, by its name */
-    FIRTHNAPKIN_NULL = 14,
-    FIRTHNAPKIN_ENUM = 15,
-    FIRTHNAPKIN_VARIABLE = 16, /* a variable used as a value */
-    FIRTHNAPKIN_LIST = 17,
-    FIRTHNAPKIN_OBJECT = 18,
-    FIRTHNAPKIN_OBJECT_FIELD = 19, /* a field of an object, by its name */
-    FIRTHNAPKIN_INT = 20,          /* an Int that 32 bits hold */
-    FIRTHNAPKIN_LARGE_INT = 21,    /* an Int that 32 bits don't hold */
-    FIRTHNAPKIN_FLOAT = 22,
-    FIRTHNAPKIN_STRING = 23,
-    FIRTHNAPKIN_BLOCK_STRING = 24,
-    FIRTHNAPKIN_BOOLEAN = 25
+    FIRTHNAPKIN_FIELD = 7,                /* a field that is selected */
+    FIRTHNAPKIN_ALIAS = 8,                /* the alias of a field */
+    FIRTHNAPKIN_FRAGMENT_SPREAD = 9,      /* the use of a fragment by its name */
+    FIRTHNAPKIN_INLINE_FRAGMENT = 10,     /* a fragment without a name; its name is its type condition */
+    FIRTHNAPKIN_DIRECTIVE = 11,           /* the use of a directive */
+    FIRTHNAPKIN_ARGUMENTS = 12,           /* the arguments of a field or a directive */
+    FIRTHNAPKIN_ARGUMENT = 13,            /* an argument, by its name */
+    FIRTHNAPKIN_NULL = 14,                /* the value null */
+    FIRTHNAPKIN_ENUM = 15,                /* a value of an enum */
+    FIRTHNAPKIN_VARIABLE = 16,            /* a variable used as a value */
+    FIRTHNAPKIN_LIST = 17,                /* a list of values */
+    FIRTHNAPKIN_OBJECT = 18,              /* an object, with its fields */
+    FIRTHNAPKIN_OBJECT_FIELD = 19,        /* a field of an object, by its name */
+    FIRTHNAPKIN_INT = 20,                 /* an Int that 32 bits hold */
+    FIRTHNAPKIN_LARGE_INT = 21,           /* an Int that 32 bits don't hold */
+    FIRTHNAPKIN_FLOAT = 22,               /* a number with a fraction or an exponent */
+    FIRTHNAPKIN_STRING = 23,              /* a String between quotes */
+    FIRTHNAPKIN_BLOCK_STRING = 24,        /* a String between three quotes on each side */
+    FIRTHNAPKIN_BOOLEAN = 25              /* true or false */
+    /* tables.toml: end */
 };
 
 /* A position: the number of characters of the source, of line feeds, of characters of the line, and of bytes before it. */
@@ -127,25 +133,27 @@ typedef struct {
 
 /* The kind of a token. */
 enum firthnapkin_token_kind {
-    FIRTHNAPKIN_TOKEN_END_OF_FILE = 0,  /* the end of the source, which has no bytes */
-    FIRTHNAPKIN_TOKEN_NAME = 1,         /* a name or a word of the language */
-    FIRTHNAPKIN_TOKEN_STRING = 2,       /* a text between quotes */
-    FIRTHNAPKIN_TOKEN_BLOCK_STRING = 3, /* a text between three quotes on each side */
-    FIRTHNAPKIN_TOKEN_FLOAT = 4,        /* a number with a fraction or an exponent */
-    FIRTHNAPKIN_TOKEN_INT = 5,          /* a number without either */
-    FIRTHNAPKIN_TOKEN_EXCLAMATION_MARK = 6,
-    FIRTHNAPKIN_TOKEN_DOLLAR = 7,
-    FIRTHNAPKIN_TOKEN_PAREN_OPEN = 8,
-    FIRTHNAPKIN_TOKEN_PAREN_CLOSE = 9,
-    FIRTHNAPKIN_TOKEN_BRACKET_OPEN = 10,
-    FIRTHNAPKIN_TOKEN_BRACKET_CLOSE = 11,
-    FIRTHNAPKIN_TOKEN_CURLY_OPEN = 12,
-    FIRTHNAPKIN_TOKEN_CURLY_CLOSE = 13,
-    FIRTHNAPKIN_TOKEN_ELLIPSIS = 14,
-    FIRTHNAPKIN_TOKEN_COLON = 15,
-    FIRTHNAPKIN_TOKEN_EQUALS = 16,
-    FIRTHNAPKIN_TOKEN_AT = 17,
-    FIRTHNAPKIN_TOKEN_PIPE = 18
+    /* tables.toml: tokens */
+    FIRTHNAPKIN_TOKEN_END_OF_FILE = 0,      /* the end of the source, which has no characters */
+    FIRTHNAPKIN_TOKEN_NAME = 1,             /* a name or a word of the language */
+    FIRTHNAPKIN_TOKEN_STRING = 2,           /* a text between quotes */
+    FIRTHNAPKIN_TOKEN_BLOCK_STRING = 3,     /* a text between three quotes on each side */
+    FIRTHNAPKIN_TOKEN_FLOAT = 4,            /* a number with a fraction or an exponent */
+    FIRTHNAPKIN_TOKEN_INT = 5,              /* a number without either */
+    FIRTHNAPKIN_TOKEN_EXCLAMATION_MARK = 6, /* `!` */
+    FIRTHNAPKIN_TOKEN_DOLLAR = 7,           /* `$` */
+    FIRTHNAPKIN_TOKEN_PAREN_OPEN = 8,       /* `(` */
+    FIRTHNAPKIN_TOKEN_PAREN_CLOSE = 9,      /* `)` */
+    FIRTHNAPKIN_TOKEN_BRACKET_OPEN = 10,    /* `[` */
+    FIRTHNAPKIN_TOKEN_BRACKET_CLOSE = 11,   /* `]` */
+    FIRTHNAPKIN_TOKEN_CURLY_OPEN = 12,      /* `{` */
+    FIRTHNAPKIN_TOKEN_CURLY_CLOSE = 13,     /* `}` */
+    FIRTHNAPKIN_TOKEN_ELLIPSIS = 14,        /* `...` */
+    FIRTHNAPKIN_TOKEN_COLON = 15,           /* `:` */
+    FIRTHNAPKIN_TOKEN_EQUALS = 16,          /* `=` */
+    FIRTHNAPKIN_TOKEN_AT = 17,              /* `@` */
+    FIRTHNAPKIN_TOKEN_PIPE = 18             /* `|` */
+    /* tables.toml: end */
 };
 
 /* A token. Its text is the bytes of the source from start.byte + quotes to end.byte - quotes, as they are written: escapes
@@ -160,36 +168,41 @@ typedef struct {
  * alone: no schema gives a field a weight, equal fields aren't merged, and @skip and @include leave nothing out. */
 typedef struct {
     uint32_t definition;  /* the index of the operation's node */
+    /* tables.toml: complexity as fields */
     uint32_t fields;      /* the fields, at every depth */
     uint32_t aliases;     /* the fields with an alias */
-    uint32_t directives;  /* those of the operation, of its variable definitions, of what is selected, and of a fragment each time
-                             that it is spread */
+    uint32_t directives;  /* the directives of the operation and of all in it, and of a fragment each time that it is spread */
     uint32_t root_fields; /* the fields that are in no other field */
     uint32_t depth;       /* how many fields are nested in one another at most: 1 if no field is in another */
+    /* tables.toml: end */
 } firthnapkin_complexity;
 
 /* The kind of an error. */
 enum firthnapkin_error_kind {
+    /* tables.toml: errors */
     FIRTHNAPKIN_ERROR_UNEXPECTED_TOKEN = 0, /* no document could have the token there */
     FIRTHNAPKIN_ERROR_UNEXPECTED_END = 1,   /* the source ends within a document */
-    FIRTHNAPKIN_ERROR_LEXICAL = 2,          /* there is no token here; `detail` says why */
+    FIRTHNAPKIN_ERROR_LEXICAL = 2,          /* there is no token here: the detail says why */
     FIRTHNAPKIN_ERROR_TOO_DEEP = 3,         /* the token is nested too deep */
     FIRTHNAPKIN_ERROR_TOO_MANY_TOKENS = 4,  /* the token is one too many */
     FIRTHNAPKIN_ERROR_INVALID_SCALAR = 5,   /* never reported, since every token of a literal is read */
     FIRTHNAPKIN_ERROR_UNKNOWN_FRAGMENT = 6, /* the spread names no fragment of the document */
     FIRTHNAPKIN_ERROR_FRAGMENT_CYCLE = 7    /* the spread is within the fragment that it names, itself or through others */
+    /* tables.toml: end */
 };
 
 /* Why there is no token. */
 enum firthnapkin_error_detail {
-    FIRTHNAPKIN_DETAIL_NONE = 0,
-    FIRTHNAPKIN_DETAIL_UNKNOWN_CHARACTER = 1,           /* `character` begins no token */
-    FIRTHNAPKIN_DETAIL_UNEXPECTED_CHARACTER = 2,        /* a token has begun, and `character` can't follow */
+    /* tables.toml: details */
+    FIRTHNAPKIN_DETAIL_NONE = 0,                        /* the error isn't lexical */
+    FIRTHNAPKIN_DETAIL_UNKNOWN_CHARACTER = 1,           /* no token begins with the character */
+    FIRTHNAPKIN_DETAIL_UNEXPECTED_CHARACTER = 2,        /* a token has begun, and the character can't follow */
     FIRTHNAPKIN_DETAIL_UNTERMINATED_STRING = 3,         /* the source or the line ends within a string */
-    FIRTHNAPKIN_DETAIL_UNKNOWN_CHARACTER_IN_STRING = 4, /* `character` is not allowed in a string */
+    FIRTHNAPKIN_DETAIL_UNKNOWN_CHARACTER_IN_STRING = 4, /* the character is not allowed in a string */
     FIRTHNAPKIN_DETAIL_UNKNOWN_ESCAPE = 5,              /* what follows a backslash in a string is no escape */
     FIRTHNAPKIN_DETAIL_UNEXPECTED_END_IN_TOKEN = 6,     /* the source ends within a token */
     FIRTHNAPKIN_DETAIL_INVALID_NUMBER = 7               /* never reported */
+    /* tables.toml: end */
 };
 
 /* An error: what it is, and where. The positions are those of a token or of a spread, or of zero width. */
@@ -205,42 +218,51 @@ typedef struct {
 
 /* The names of numbers, as "fragment_spread" of FIRTHNAPKIN_FRAGMENT_SPREAD, and "unknown" of any number that this header
  * doesn't have. */
+/* tables.toml: statuses, kinds, tokens, errors, details as names */
 static inline const char *firthnapkin_status_name(uint32_t status) {
     static const char *const names[] = {
         "ok", "syntax_error", "not_utf8", "out_of_memory", "too_deep", "too_many_tokens", "buffer_too_small",
-        "source_too_long", "invalid_limit", "invalid_error", "unknown_fragment", "fragment_cycle"};
+        "source_too_long", "invalid_limit", "invalid_error", "unknown_fragment", "fragment_cycle",
+    };
     return status < sizeof names / sizeof *names ? names[status] : "unknown";
 }
 
 static inline const char *firthnapkin_kind_name(uint32_t kind) {
     static const char *const names[] = {
-        "query", "mutation", "subscription", "fragment_definition", "variable_definitions", "variable_definition", "type",
-        "field", "alias", "fragment_spread", "inline_fragment", "directive", "arguments", "argument", "null", "enum",
-        "variable", "list", "object", "object_field", "int", "large_int", "float", "string", "block_string", "boolean"};
+        "query", "mutation", "subscription", "fragment_definition", "variable_definitions", "variable_definition",
+        "type", "field", "alias", "fragment_spread", "inline_fragment", "directive", "arguments", "argument", "null",
+        "enum", "variable", "list", "object", "object_field", "int", "large_int", "float", "string", "block_string",
+        "boolean",
+    };
     return kind < sizeof names / sizeof *names ? names[kind] : "unknown";
 }
 
 static inline const char *firthnapkin_token_kind_name(uint32_t kind) {
     static const char *const names[] = {
         "end_of_file", "name", "string", "block_string", "float", "int", "exclamation_mark", "dollar", "paren_open",
-        "paren_close", "bracket_open", "bracket_close", "curly_open", "curly_close", "ellipsis", "colon", "equals", "at",
-        "pipe"};
+        "paren_close", "bracket_open", "bracket_close", "curly_open", "curly_close", "ellipsis", "colon", "equals",
+        "at", "pipe",
+    };
     return kind < sizeof names / sizeof *names ? names[kind] : "unknown";
 }
 
 static inline const char *firthnapkin_error_kind_name(uint32_t kind) {
     static const char *const names[] = {
-        "unexpected_token", "unexpected_end", "lexical", "too_deep", "too_many_tokens", "invalid_scalar", "unknown_fragment",
-        "fragment_cycle"};
+        "unexpected_token", "unexpected_end", "lexical", "too_deep", "too_many_tokens", "invalid_scalar",
+        "unknown_fragment", "fragment_cycle",
+    };
     return kind < sizeof names / sizeof *names ? names[kind] : "unknown";
 }
 
 static inline const char *firthnapkin_error_detail_name(uint32_t detail) {
     static const char *const names[] = {
         "none", "unknown_character", "unexpected_character", "unterminated_string", "unknown_character_in_string",
-        "unknown_escape", "unexpected_end_in_token", "invalid_number"};
+        "unknown_escape", "unexpected_end_in_token", "invalid_number",
+    };
     return detail < sizeof names / sizeof *names ? names[detail] : "unknown";
 }
+
+/* tables.toml: end */
 
 /* Parses a source within limits.
  *

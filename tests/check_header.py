@@ -1,8 +1,8 @@
 #!/usr/bin/env python3
 """Compares include/firthnapkin.h, as it is written and as a C compiler lays it out, with the sources of the crates
-juniper_flat and juniper_c. Those of the first have the fields of each type, their types, offsets and sizes, the numbers of
-statuses, of kinds of nodes, of tokens and of errors, and of details. Those of the second have the calls' parameters. The last
-line is 'N passed, M failed'.
+juniper_flat and juniper_c. Those of the first have the fields of each type, their types, offsets and sizes, and the depths.
+Those of the second have the calls' parameters. scripts/tables compares the header's enums. The last line is
+'N passed, M failed'.
 
     tests/check_header.py LAYOUT    a file with the output of the program of tests/c/layout.c
 """
@@ -10,7 +10,7 @@ line is 'N passed, M failed'.
 import re
 import sys
 
-from header import Checks, declared, defined, enum, header, read
+from header import Checks, declared, defined, header, read
 
 checks = Checks()
 check = checks.check
@@ -76,59 +76,13 @@ check("the size of a token", SIZES["Token"][0], 40)
 check("the size of a complexity", SIZES["Numbers"][0], 24)
 check("the size of limits, which stays", SIZES["Limits"][0], 32)
 
-# ---- numbers
+# ---- limits
 
-
-def upper(name):
-    return re.sub(r"(?<=[a-z0-9])(?=[A-Z])", "_", name).upper()
-
-
-for name in ("status", "kind", "token_kind", "error_kind", "error_detail"):
-    found = list(enum(f"firthnapkin_{name}").values())
-    check(f"the numbers of firthnapkin_{name}, from 0 on", found, list(range(len(found))))
-check("statuses", enum("firthnapkin_status"), {w: int(n) for w, n in re.findall(r"const (\w+): u32 = (\d+);", source("status"))})
-
-# What GraphQL calls the kinds of nodes for which gqlcheck has a word of its own.
-KINDS = {
-    "FRAGMENT": "FRAGMENT_DEFINITION",
-    "VARIABLES": "VARIABLE_DEFINITIONS",
-    "VARIABLE": "VARIABLE_DEFINITION",
-    "SPREAD": "FRAGMENT_SPREAD",
-    "INLINE": "INLINE_FRAGMENT",
-    "REFERENCE": "VARIABLE",
-    "KEY": "OBJECT_FIELD",
-}
-kinds = {upper(w): int(n) for w, n in re.findall(r"NodeKind::(\w+) => (\d+),", source("node"))}
-scalars = {upper(w): int(n) for w, n in re.findall(r"ScalarForm::(\w+)(?:\(_\))? => (\d+),", source("node"))}
-check("the number of a scalar, which no node has", kinds.pop("SCALAR"), len(kinds) + len(scalars))
-named = re.findall(r"^    (\w+),$", re.search(r"pub enum NodeKind \{(.*?)\n\}", read("crates/graphql_nodes/src/kind.rt"), re.S)[1], re.M)
-check("the order of kinds", list(kinds), [upper(name) for name in named if name != "Scalar"])
-check("kinds", enum("firthnapkin_kind"), {KINDS.get(word, word): number for word, number in {**kinds, **scalars}.items()})
-
-tokens = {upper(w): int(n) for w, n in re.findall(r"^kind_number kind\.(\w+) = (\d+)$", read("crates/juniper_flat/specs/Tokens.antt"), re.M)}
-named = re.findall(r"^    (\w+),$", re.search(r"pub enum Kind \{(.*?)\n\}", read("crates/graphql_lexical/src/kind.rt"), re.S)[1], re.M)
-check("the order of kinds of tokens, the end first", list(tokens), [upper(name) for name in named[-1:] + named[:-1]])
-check("kinds of tokens", enum("firthnapkin_token_kind"), {f"TOKEN_{word}": number for word, number in tokens.items()})
-
-constants = {w: int(n) for w, n in re.findall(r"^pub const (\w+): u32 = (\d+);", source("fault"), re.M)}
-details = list(constants).index("NO_DETAIL")
-kinds, details = dict(list(constants.items())[:details]), dict(list(constants.items())[details:])
-check("kinds of errors", enum("firthnapkin_error_kind"), {f"ERROR_{word}": number for word, number in kinds.items()})
-details["NONE"] = details.pop("NO_DETAIL")
-check("details", enum("firthnapkin_error_detail"), {f"DETAIL_{word}": number for word, number in details.items()})
 check("the largest depth", defined("FIRTHNAPKIN_MAX_DEPTH"), re.search(r"const MAX_DEPTH: u32 = (\d+);", source("limits"))[1])
 default = re.search(r"const DEFAULT_DEPTH: usize = (\d+);", read("crates/juniper_documents/src/document/limited.rt"))[1]
 # In the words after the first two 0 is no limit.
 others = ["0" for field, _ in fields_of("Limits", source("limits"))[2:-1]]
 check("the default limits", defined("FIRTHNAPKIN_LIMITS_DEFAULT"), f"{{{', '.join([default, 'UINT32_MAX', *others, '{0}'])}}}")
-
-# ---- names of numbers
-
-PREFIXES = {"status": "", "kind": "", "token_kind": "TOKEN_", "error_kind": "ERROR_", "error_detail": "DETAIL_"}
-for name, prefix in PREFIXES.items():
-    body = re.search(rf"firthnapkin_{name}_name\(uint32_t \w+\) {{(.*?)\n}}", header, re.S)[1]
-    words = [word for word in re.findall(r'"(\w+)"', body) if word != "unknown"]
-    check(f"the names of firthnapkin_{name}", words, [word[len(prefix):].lower() for word in enum(f"firthnapkin_{name}")])
 
 # ---- calls
 

@@ -34,11 +34,14 @@ import (
 // Complexity is how large an operation is with every fragment expanded. Numbers saturate at 1<<32 - 1. They are those of the
 // source alone: no schema gives a field a weight, equal fields aren't merged, and @skip and @include leave nothing out.
 type Complexity struct {
+	// tables.toml: complexity as fields
+
 	Fields     uint32 // the fields, at every depth
 	Aliases    uint32 // the fields with an alias
-	Directives uint32 // those of the operation, of its variable definitions, of what is selected, and of a fragment each time that it is spread
+	Directives uint32 // the directives of the operation and of all in it, and of a fragment each time that it is spread
 	RootFields uint32 // the fields that are in no other field
 	Depth      uint32 // how many fields are nested in one another at most: 1 if no field is in another
+	// tables.toml: end
 }
 
 // operationComplexity is the complexity of an operation, by its node, as the library writes it.
@@ -140,8 +143,11 @@ func startOf(complexities []operationComplexity) unsafe.Pointer {
 var (
 	_ = [1]struct{}{}[unsafe.Sizeof(operationComplexity{})-C.sizeof_firthnapkin_complexity]
 	_ = [1]struct{}{}[unsafe.Offsetof(operationComplexity{}.Complexity)-unsafe.Offsetof(C.firthnapkin_complexity{}.fields)]
+	// tables.toml: complexity as offsets
+	_ = [1]struct{}{}[unsafe.Offsetof(Complexity{}.Fields)+4-unsafe.Offsetof(C.firthnapkin_complexity{}.fields)]
 	_ = [1]struct{}{}[unsafe.Offsetof(Complexity{}.Aliases)+4-unsafe.Offsetof(C.firthnapkin_complexity{}.aliases)]
 	_ = [1]struct{}{}[unsafe.Offsetof(Complexity{}.Directives)+4-unsafe.Offsetof(C.firthnapkin_complexity{}.directives)]
 	_ = [1]struct{}{}[unsafe.Offsetof(Complexity{}.RootFields)+4-unsafe.Offsetof(C.firthnapkin_complexity{}.root_fields)]
 	_ = [1]struct{}{}[unsafe.Offsetof(Complexity{}.Depth)+4-unsafe.Offsetof(C.firthnapkin_complexity{}.depth)]
+	// tables.toml: end
 )

@@ -12,32 +12,35 @@ type Kind uint32
 
 // The kinds of nodes.
 const (
-	KindQuery               Kind = C.FIRTHNAPKIN_QUERY
-	KindMutation            Kind = C.FIRTHNAPKIN_MUTATION
-	KindSubscription        Kind = C.FIRTHNAPKIN_SUBSCRIPTION
-	KindFragmentDefinition  Kind = C.FIRTHNAPKIN_FRAGMENT_DEFINITION
+	// tables.toml: kinds
+
+	KindQuery               Kind = C.FIRTHNAPKIN_QUERY                // an operation that only reads
+	KindMutation            Kind = C.FIRTHNAPKIN_MUTATION             // an operation that writes
+	KindSubscription        Kind = C.FIRTHNAPKIN_SUBSCRIPTION         // a long-lived operation
+	KindFragmentDefinition  Kind = C.FIRTHNAPKIN_FRAGMENT_DEFINITION  // the definition of a fragment
 	KindVariableDefinitions Kind = C.FIRTHNAPKIN_VARIABLE_DEFINITIONS // the variable definitions of an operation
 	KindVariableDefinition  Kind = C.FIRTHNAPKIN_VARIABLE_DEFINITION  // a variable definition, by its name
 	KindType                Kind = C.FIRTHNAPKIN_TYPE                 // the type of a variable
-	KindField               Kind = C.FIRTHNAPKIN_FIELD
-	KindAlias               Kind = C.FIRTHNAPKIN_ALIAS           // the alias of a field
-	KindFragmentSpread      Kind = C.FIRTHNAPKIN_FRAGMENT_SPREAD // the use of a fragment by its name
-	KindInlineFragment      Kind = C.FIRTHNAPKIN_INLINE_FRAGMENT // a fragment without a name; its name is its type condition
-	KindDirective           Kind = C.FIRTHNAPKIN_DIRECTIVE
-	KindArguments           Kind = C.FIRTHNAPKIN_ARGUMENTS // the arguments of a field or a directive
-	KindArgument            Kind = C.FIRTHNAPKIN_ARGUMENT  // an argument, by its name
-	KindNull                Kind = C.FIRTHNAPKIN_NULL
-	KindEnum                Kind = C.FIRTHNAPKIN_ENUM
-	KindVariable            Kind = C.FIRTHNAPKIN_VARIABLE // a variable used as a value
-	KindList                Kind = C.FIRTHNAPKIN_LIST
-	KindObject              Kind = C.FIRTHNAPKIN_OBJECT
-	KindObjectField         Kind = C.FIRTHNAPKIN_OBJECT_FIELD // a field of an object, by its name
-	KindInt                 Kind = C.FIRTHNAPKIN_INT          // an Int that 32 bits hold
-	KindLargeInt            Kind = C.FIRTHNAPKIN_LARGE_INT    // an Int that 32 bits don't hold
-	KindFloat               Kind = C.FIRTHNAPKIN_FLOAT
-	KindString              Kind = C.FIRTHNAPKIN_STRING
-	KindBlockString         Kind = C.FIRTHNAPKIN_BLOCK_STRING
-	KindBoolean             Kind = C.FIRTHNAPKIN_BOOLEAN
+	KindField               Kind = C.FIRTHNAPKIN_FIELD                // a field that is selected
+	KindAlias               Kind = C.FIRTHNAPKIN_ALIAS                // the alias of a field
+	KindFragmentSpread      Kind = C.FIRTHNAPKIN_FRAGMENT_SPREAD      // the use of a fragment by its name
+	KindInlineFragment      Kind = C.FIRTHNAPKIN_INLINE_FRAGMENT      // a fragment without a name; its name is its type condition
+	KindDirective           Kind = C.FIRTHNAPKIN_DIRECTIVE            // the use of a directive
+	KindArguments           Kind = C.FIRTHNAPKIN_ARGUMENTS            // the arguments of a field or a directive
+	KindArgument            Kind = C.FIRTHNAPKIN_ARGUMENT             // an argument, by its name
+	KindNull                Kind = C.FIRTHNAPKIN_NULL                 // the value null
+	KindEnum                Kind = C.FIRTHNAPKIN_ENUM                 // a value of an enum
+	KindVariable            Kind = C.FIRTHNAPKIN_VARIABLE             // a variable used as a value
+	KindList                Kind = C.FIRTHNAPKIN_LIST                 // a list of values
+	KindObject              Kind = C.FIRTHNAPKIN_OBJECT               // an object, with its fields
+	KindObjectField         Kind = C.FIRTHNAPKIN_OBJECT_FIELD         // a field of an object, by its name
+	KindInt                 Kind = C.FIRTHNAPKIN_INT                  // an Int that 32 bits hold
+	KindLargeInt            Kind = C.FIRTHNAPKIN_LARGE_INT            // an Int that 32 bits don't hold
+	KindFloat               Kind = C.FIRTHNAPKIN_FLOAT                // a number with a fraction or an exponent
+	KindString              Kind = C.FIRTHNAPKIN_STRING               // a String between quotes
+	KindBlockString         Kind = C.FIRTHNAPKIN_BLOCK_STRING         // a String between three quotes on each side
+	KindBoolean             Kind = C.FIRTHNAPKIN_BOOLEAN              // true or false
+	// tables.toml: end
 )
 
 // Position is the number of characters of the source, of line feeds, of characters of the line, and of bytes before it: each is

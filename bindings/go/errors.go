@@ -29,14 +29,18 @@ type ErrorKind uint32
 
 // The kinds of errors.
 const (
-	UnexpectedToken   ErrorKind = C.FIRTHNAPKIN_ERROR_UNEXPECTED_TOKEN // no document could have the token there
-	UnexpectedEnd     ErrorKind = C.FIRTHNAPKIN_ERROR_UNEXPECTED_END   // the source ends within a document
-	Lexical           ErrorKind = C.FIRTHNAPKIN_ERROR_LEXICAL          // there is no token here; the ErrorDetail says why
-	TooDeep           ErrorKind = C.FIRTHNAPKIN_ERROR_TOO_DEEP         // the token is nested too deep
-	TooManyTokens     ErrorKind = C.FIRTHNAPKIN_ERROR_TOO_MANY_TOKENS  // the token is one too many
-	UnknownFragment   ErrorKind = C.FIRTHNAPKIN_ERROR_UNKNOWN_FRAGMENT // the spread names no fragment of the document
-	FragmentCycle     ErrorKind = C.FIRTHNAPKIN_ERROR_FRAGMENT_CYCLE   // the spread is within the fragment that it names
-	OperationTooLarge ErrorKind = C.OPERATION_TOO_LARGE                // the operation exceeds a limit: the message says which
+	// tables.toml: errors without invalid_scalar
+
+	UnexpectedToken ErrorKind = C.FIRTHNAPKIN_ERROR_UNEXPECTED_TOKEN // no document could have the token there
+	UnexpectedEnd   ErrorKind = C.FIRTHNAPKIN_ERROR_UNEXPECTED_END   // the source ends within a document
+	Lexical         ErrorKind = C.FIRTHNAPKIN_ERROR_LEXICAL          // there is no token here: the detail says why
+	TooDeep         ErrorKind = C.FIRTHNAPKIN_ERROR_TOO_DEEP         // the token is nested too deep
+	TooManyTokens   ErrorKind = C.FIRTHNAPKIN_ERROR_TOO_MANY_TOKENS  // the token is one too many
+	UnknownFragment ErrorKind = C.FIRTHNAPKIN_ERROR_UNKNOWN_FRAGMENT // the spread names no fragment of the document
+	FragmentCycle   ErrorKind = C.FIRTHNAPKIN_ERROR_FRAGMENT_CYCLE   // the spread is within the fragment that it names, itself or through others
+	// tables.toml: end
+
+	OperationTooLarge ErrorKind = C.OPERATION_TOO_LARGE // the operation exceeds a limit: the message says which
 )
 
 // ErrorDetail is why there is no token.
@@ -44,13 +48,17 @@ type ErrorDetail uint32
 
 // The details of errors.
 const (
-	NoDetail                 ErrorDetail = C.FIRTHNAPKIN_DETAIL_NONE
-	UnknownCharacter         ErrorDetail = C.FIRTHNAPKIN_DETAIL_UNKNOWN_CHARACTER
-	UnexpectedCharacter      ErrorDetail = C.FIRTHNAPKIN_DETAIL_UNEXPECTED_CHARACTER
-	UnterminatedString       ErrorDetail = C.FIRTHNAPKIN_DETAIL_UNTERMINATED_STRING
-	UnknownCharacterInString ErrorDetail = C.FIRTHNAPKIN_DETAIL_UNKNOWN_CHARACTER_IN_STRING
-	UnknownEscape            ErrorDetail = C.FIRTHNAPKIN_DETAIL_UNKNOWN_ESCAPE
-	UnexpectedEndInToken     ErrorDetail = C.FIRTHNAPKIN_DETAIL_UNEXPECTED_END_IN_TOKEN
+	NoDetail ErrorDetail = C.FIRTHNAPKIN_DETAIL_NONE
+
+	// tables.toml: details without none, invalid_number
+
+	UnknownCharacter         ErrorDetail = C.FIRTHNAPKIN_DETAIL_UNKNOWN_CHARACTER           // no token begins with the character
+	UnexpectedCharacter      ErrorDetail = C.FIRTHNAPKIN_DETAIL_UNEXPECTED_CHARACTER        // a token has begun, and the character can't follow
+	UnterminatedString       ErrorDetail = C.FIRTHNAPKIN_DETAIL_UNTERMINATED_STRING         // the source or the line ends within a string
+	UnknownCharacterInString ErrorDetail = C.FIRTHNAPKIN_DETAIL_UNKNOWN_CHARACTER_IN_STRING // the character is not allowed in a string
+	UnknownEscape            ErrorDetail = C.FIRTHNAPKIN_DETAIL_UNKNOWN_ESCAPE              // what follows a backslash in a string is no escape
+	UnexpectedEndInToken     ErrorDetail = C.FIRTHNAPKIN_DETAIL_UNEXPECTED_END_IN_TOKEN     // the source ends within a token
+	// tables.toml: end
 )
 
 // SyntaxError says why a source has no document within the limits, and where.

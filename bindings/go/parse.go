@@ -81,18 +81,33 @@ const Version = C.FIRTHNAPKIN_VERSION_STRING
 // Limits are what a source may have. The zero value allows no bracket, no token and no field, so begin with DefaultLimits. Those
 // on each operation are from 0 to AnyNumber, which is none, and count with every fragment expanded, as its Complexity does.
 type Limits struct {
-	Depth      int // how deep brackets may be nested: from 0 to MaxDepth
-	Tokens     int // how many tokens there may be, the end of the source not counted; AnyTokens and more are no limit
-	Fields     int // an operation's fields
-	Aliases    int // an operation's fields with an alias
-	Directives int // an operation's directives
-	RootFields int // an operation's fields that are in no other field
-	FieldDepth int // an operation's fields that are nested in one another
+	Depth  int // how deep brackets may be nested: from 0 to MaxDepth
+	Tokens int // how many tokens there may be, the end of the source not counted; AnyTokens and more are no limit
+
+	// tables.toml: complexity as limits
+
+	Fields     int // how many fields an operation may have, with every fragment expanded
+	Aliases    int // how many aliases an operation may have
+	Directives int // how many directives an operation may have
+	RootFields int // how many fields of an operation may be in no other field
+	FieldDepth int // how deep fields may be nested in one another
+	// tables.toml: end
 }
 
 // DefaultLimits are those of Parse: brackets nested 200 deep, and no other limit.
-var DefaultLimits = Limits{Depth: 200, Tokens: AnyTokens, Fields: AnyNumber, Aliases: AnyNumber, Directives: AnyNumber,
-	RootFields: AnyNumber, FieldDepth: AnyNumber}
+var DefaultLimits = Limits{
+	Depth:  200,
+	Tokens: AnyTokens,
+
+	// tables.toml: complexity as defaults
+
+	Fields:     AnyNumber,
+	Aliases:    AnyNumber,
+	Directives: AnyNumber,
+	RootFields: AnyNumber,
+	FieldDepth: AnyNumber,
+	// tables.toml: end
+}
 
 // What the calls return besides a *SyntaxError.
 var (

@@ -162,8 +162,9 @@ func TestDocument(t *testing.T) {
 	same(t, "the string", []any{d.Text(last), d.Meaning(last)}, []any{`"é𝄞"`, "é𝄞"})
 	same(t, "its start", d.Nodes[last].Start, Position{75, 2, 23, 79})
 	same(t, "its end", d.Nodes[last].End, Position{79, 2, 27, 87})
-	same(t, "a kind's word", []string{KindQuery.String(), KindObjectField.String(), KindBoolean.String(), Kind(26).String()},
-		[]string{"query", "object_field", "boolean", "Kind(26)"})
+	beyond := len(kindNames)
+	same(t, "a kind's word", []string{KindQuery.String(), KindObjectField.String(), KindBoolean.String(), Kind(beyond).String()},
+		[]string{"query", "object_field", "boolean", fmt.Sprintf("Kind(%d)", beyond)})
 	same(t, "the words of errors", []string{UnexpectedToken.String(), TooManyTokens.String(), ErrorKind(8).String(),
 		UnknownEscape.String(), UnexpectedEndInToken.String(), ErrorDetail(9).String()},
 		[]string{"unexpected_token", "too_many_tokens", "ErrorKind(8)", "unknown_escape", "unexpected_end_in_token", "ErrorDetail(9)"})

@@ -27,25 +27,28 @@ type TokenKind uint32
 
 // The kinds of tokens.
 const (
-	TokenEndOfFile       TokenKind = C.FIRTHNAPKIN_TOKEN_END_OF_FILE  // the end of the source, which has no bytes
-	TokenName            TokenKind = C.FIRTHNAPKIN_TOKEN_NAME         // a name or a word of the language
-	TokenString          TokenKind = C.FIRTHNAPKIN_TOKEN_STRING       // a text between quotes
-	TokenBlockString     TokenKind = C.FIRTHNAPKIN_TOKEN_BLOCK_STRING // a text between three quotes on each side
-	TokenFloat           TokenKind = C.FIRTHNAPKIN_TOKEN_FLOAT        // a number with a fraction or an exponent
-	TokenInt             TokenKind = C.FIRTHNAPKIN_TOKEN_INT          // a number without either
-	TokenExclamationMark TokenKind = C.FIRTHNAPKIN_TOKEN_EXCLAMATION_MARK
-	TokenDollar          TokenKind = C.FIRTHNAPKIN_TOKEN_DOLLAR
-	TokenParenOpen       TokenKind = C.FIRTHNAPKIN_TOKEN_PAREN_OPEN
-	TokenParenClose      TokenKind = C.FIRTHNAPKIN_TOKEN_PAREN_CLOSE
-	TokenBracketOpen     TokenKind = C.FIRTHNAPKIN_TOKEN_BRACKET_OPEN
-	TokenBracketClose    TokenKind = C.FIRTHNAPKIN_TOKEN_BRACKET_CLOSE
-	TokenCurlyOpen       TokenKind = C.FIRTHNAPKIN_TOKEN_CURLY_OPEN
-	TokenCurlyClose      TokenKind = C.FIRTHNAPKIN_TOKEN_CURLY_CLOSE
-	TokenEllipsis        TokenKind = C.FIRTHNAPKIN_TOKEN_ELLIPSIS
-	TokenColon           TokenKind = C.FIRTHNAPKIN_TOKEN_COLON
-	TokenEquals          TokenKind = C.FIRTHNAPKIN_TOKEN_EQUALS
-	TokenAt              TokenKind = C.FIRTHNAPKIN_TOKEN_AT
-	TokenPipe            TokenKind = C.FIRTHNAPKIN_TOKEN_PIPE
+	// tables.toml: tokens
+
+	TokenEndOfFile       TokenKind = C.FIRTHNAPKIN_TOKEN_END_OF_FILE      // the end of the source, which has no characters
+	TokenName            TokenKind = C.FIRTHNAPKIN_TOKEN_NAME             // a name or a word of the language
+	TokenString          TokenKind = C.FIRTHNAPKIN_TOKEN_STRING           // a text between quotes
+	TokenBlockString     TokenKind = C.FIRTHNAPKIN_TOKEN_BLOCK_STRING     // a text between three quotes on each side
+	TokenFloat           TokenKind = C.FIRTHNAPKIN_TOKEN_FLOAT            // a number with a fraction or an exponent
+	TokenInt             TokenKind = C.FIRTHNAPKIN_TOKEN_INT              // a number without either
+	TokenExclamationMark TokenKind = C.FIRTHNAPKIN_TOKEN_EXCLAMATION_MARK // `!`
+	TokenDollar          TokenKind = C.FIRTHNAPKIN_TOKEN_DOLLAR           // `$`
+	TokenParenOpen       TokenKind = C.FIRTHNAPKIN_TOKEN_PAREN_OPEN       // `(`
+	TokenParenClose      TokenKind = C.FIRTHNAPKIN_TOKEN_PAREN_CLOSE      // `)`
+	TokenBracketOpen     TokenKind = C.FIRTHNAPKIN_TOKEN_BRACKET_OPEN     // `[`
+	TokenBracketClose    TokenKind = C.FIRTHNAPKIN_TOKEN_BRACKET_CLOSE    // `]`
+	TokenCurlyOpen       TokenKind = C.FIRTHNAPKIN_TOKEN_CURLY_OPEN       // `{`
+	TokenCurlyClose      TokenKind = C.FIRTHNAPKIN_TOKEN_CURLY_CLOSE      // `}`
+	TokenEllipsis        TokenKind = C.FIRTHNAPKIN_TOKEN_ELLIPSIS         // `...`
+	TokenColon           TokenKind = C.FIRTHNAPKIN_TOKEN_COLON            // `:`
+	TokenEquals          TokenKind = C.FIRTHNAPKIN_TOKEN_EQUALS           // `=`
+	TokenAt              TokenKind = C.FIRTHNAPKIN_TOKEN_AT               // `@`
+	TokenPipe            TokenKind = C.FIRTHNAPKIN_TOKEN_PIPE             // `|`
+	// tables.toml: end
 )
 
 // Token is a token of a source, as the library writes it.

@@ -2,6 +2,7 @@ package firthnapkin
 
 import (
 	"errors"
+	"fmt"
 	"strings"
 	"syscall"
 	"testing"
@@ -32,8 +33,9 @@ func TestTokenKinds(t *testing.T) {
 	}
 	same(t, "the block string", []Position{tokens[8].Start, tokens[8].End}, []Position{{17, 1, 14, 22}, {26, 2, 4, 34}})
 	same(t, "the end", tokens[23].Start, Position{49, 2, 27, 57})
-	same(t, "names", []string{TokenEndOfFile.String(), TokenExclamationMark.String(), TokenPipe.String(), TokenKind(19).String()},
-		[]string{"end_of_file", "exclamation_mark", "pipe", "TokenKind(19)"})
+	beyond := len(tokenKindNames)
+	same(t, "names", []string{TokenEndOfFile.String(), TokenExclamationMark.String(), TokenPipe.String(), TokenKind(beyond).String()},
+		[]string{"end_of_file", "exclamation_mark", "pipe", fmt.Sprintf("TokenKind(%d)", beyond)})
 }
 
 // Numbers of tokens around the capacities that are tried, and large ones.

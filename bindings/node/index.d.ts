@@ -1,6 +1,13 @@
 /** The kind of a node. */
 export type Kind =
-  | "query" | "mutation" | "subscription"
+  // tables.toml: kinds
+  /** An operation that only reads. */
+  | "query"
+  /** An operation that writes. */
+  | "mutation"
+  /** A long-lived operation. */
+  | "subscription"
+  /** The definition of a fragment. */
   | "fragmentDefinition"
   /** The variable definitions of an operation. */
   | "variableDefinitions"
@@ -8,6 +15,7 @@ export type Kind =
   | "variableDefinition"
   /** The type of a variable. */
   | "type"
+  /** A field that is selected. */
   | "field"
   /** The alias of a field. */
   | "alias"
@@ -15,22 +23,37 @@ export type Kind =
   | "fragmentSpread"
   /** A fragment without a name; its name is its type condition. */
   | "inlineFragment"
+  /** The use of a directive. */
   | "directive"
   /** The arguments of a field or a directive. */
   | "arguments"
   /** An argument, by its name. */
   | "argument"
-  | "null" | "enum"
+  /** The value null. */
+  | "null"
+  /** A value of an enum. */
+  | "enum"
   /** A variable used as a value. */
   | "variable"
-  | "list" | "object"
+  /** A list of values. */
+  | "list"
+  /** An object, with its fields. */
+  | "object"
   /** A field of an object, by its name. */
   | "objectField"
   /** An Int that 32 bits hold. */
   | "int"
   /** An Int that 32 bits don't hold. */
   | "largeInt"
-  | "float" | "string" | "blockString" | "boolean";
+  /** A number with a fraction or an exponent. */
+  | "float"
+  /** A String between quotes. */
+  | "string"
+  /** A String between three quotes on each side. */
+  | "blockString"
+  /** True or false. */
+  | "boolean";
+  // tables.toml: end
 
 /** How much comes before a position: UTF-16 units of the source, line feeds, units of the line, bytes of UTF-8. So each is counted from 0. */
 export interface Position {
@@ -128,16 +151,18 @@ export interface Part extends Shown {
  * no schema gives a field a weight, equal fields aren't merged, and `@skip` and `@include` leave nothing out.
  */
 export interface Complexity {
+  // tables.toml: complexity as fields
   /** The fields, at every depth. */
   readonly fields: number;
   /** The fields with an alias. */
   readonly aliases: number;
-  /** The directives of the operation, of its variable definitions, of what is selected, and of a fragment each time that it is spread. */
+  /** The directives of the operation and of all in it, and of a fragment each time that it is spread. */
   readonly directives: number;
   /** The fields that are in no other field. */
   readonly rootFields: number;
   /** How many fields are nested in one another at most: 1 if no field is in another. */
   readonly depth: number;
+  // tables.toml: end
 }
 
 /** A query, a mutation or a subscription. */
@@ -255,26 +280,43 @@ export interface DocumentParts {
 
 /** The kind of an error. */
 export type ErrorKind =
-  | "unexpectedToken" | "unexpectedEnd"
-  /** There is no token: the detail says why. */
-  | "lexical"
-  /** A token is nested too deep. */
-  | "tooDeep"
-  /** A token is one too many. */
-  | "tooManyTokens"
-  /** A spread names no fragment of the document. */
-  | "unknownFragment"
-  /** A spread is within the fragment that it names, itself or through others. */
-  | "fragmentCycle"
   /** An operation exceeds a limit, with every fragment expanded: the message has the number and the limit. */
   | "operationTooLarge"
   /** A half of a surrogate pair is alone, so the string can't be encoded as UTF-8. */
-  | "surrogate";
+  | "surrogate"
+  // tables.toml: errors without invalid_scalar
+  /** No document could have the token there. */
+  | "unexpectedToken"
+  /** The source ends within a document. */
+  | "unexpectedEnd"
+  /** There is no token here: the detail says why. */
+  | "lexical"
+  /** The token is nested too deep. */
+  | "tooDeep"
+  /** The token is one too many. */
+  | "tooManyTokens"
+  /** The spread names no fragment of the document. */
+  | "unknownFragment"
+  /** The spread is within the fragment that it names, itself or through others. */
+  | "fragmentCycle";
+  // tables.toml: end
 
 /** Why there is no token. */
 export type ErrorDetail =
-  | "unknownCharacter" | "unexpectedCharacter" | "unterminatedString" | "unknownCharacterInString" | "unknownEscape"
+  // tables.toml: details without none, invalid_number
+  /** No token begins with the character. */
+  | "unknownCharacter"
+  /** A token has begun, and the character can't follow. */
+  | "unexpectedCharacter"
+  /** The source or the line ends within a string. */
+  | "unterminatedString"
+  /** The character is not allowed in a string. */
+  | "unknownCharacterInString"
+  /** What follows a backslash in a string is no escape. */
+  | "unknownEscape"
+  /** The source ends within a token. */
   | "unexpectedEndInToken";
+  // tables.toml: end
 
 /**
  * Why a source isn't a document within the limits, and where. The message ends with the line and the column, as in `locations`. The
@@ -319,17 +361,46 @@ export function parse(source: string, options?: Options): Document;
 
 /** The kind of a token. */
 export type TokenKind =
+  // tables.toml: tokens
   /** The end of the source, which has no characters. */
   | "endOfFile"
   /** A name or a word of the language. */
   | "name"
-  | "string" | "blockString"
+  /** A text between quotes. */
+  | "string"
+  /** A text between three quotes on each side. */
+  | "blockString"
   /** A number with a fraction or an exponent. */
   | "float"
   /** A number without either. */
   | "int"
-  | "exclamationMark" | "dollar" | "parenOpen" | "parenClose" | "bracketOpen" | "bracketClose" | "curlyOpen" | "curlyClose"
-  | "ellipsis" | "colon" | "equals" | "at" | "pipe";
+  /** `!` */
+  | "exclamationMark"
+  /** `$` */
+  | "dollar"
+  /** `(` */
+  | "parenOpen"
+  /** `)` */
+  | "parenClose"
+  /** `[` */
+  | "bracketOpen"
+  /** `]` */
+  | "bracketClose"
+  /** `{` */
+  | "curlyOpen"
+  /** `}` */
+  | "curlyClose"
+  /** `...` */
+  | "ellipsis"
+  /** `:` */
+  | "colon"
+  /** `=` */
+  | "equals"
+  /** `@` */
+  | "at"
+  /** `|` */
+  | "pipe";
+  // tables.toml: end
 
 /** A token of a source. */
 export interface Token extends Shown {

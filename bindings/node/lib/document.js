@@ -25,7 +25,9 @@ const VALUE = 12;
 const LENGTH = 14;
 
 // The numbers of an operation, which come after its node's index.
+// tables.toml: complexity as a list
 const NUMBERS = ["fields", "aliases", "directives", "rootFields", "depth"];
+// tables.toml: end
 
 // How large each operation is, by the index of its node.
 function byOperation(words) {

@@ -15,11 +15,13 @@ const LIMITS = {
 
 // Those on each operation's complexity are a line, too, in the order of firthnapkin_complexity.
 const SIZES = {
+  // tables.toml: complexity as limits
   maxFields: "How many fields an operation may have, with every fragment expanded.",
-  maxAliases: "How many fields with an alias it may have.",
-  maxDirectives: "How many directives it may have.",
-  maxRootFields: "How many of its fields may be in no other field.",
-  maxFieldDepth: "How many of its fields may be nested in one another.",
+  maxAliases: "How many aliases an operation may have.",
+  maxDirectives: "How many directives an operation may have.",
+  maxRootFields: "How many fields of an operation may be in no other field.",
+  maxFieldDepth: "How deep fields may be nested in one another.",
+  // tables.toml: end
 };
 for (const [name, about] of Object.entries(SIZES)) SIZES[name] = [UNLIMITED, UNLIMITED - 1, about];
 

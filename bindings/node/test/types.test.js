@@ -19,7 +19,7 @@ const INTERNAL = {
 };
 
 const [index, ofLimits] = ["index.d.ts", "lib/limits.d.ts"].map((name) => fs.readFileSync(path.join(__dirname, "..", name), "utf8"));
-const text = (index + ofLimits).replace(/\/\*[^]*?\*\//g, "");
+const text = (index + ofLimits).replace(/\/\*[^]*?\*\/|^ *\/\/ .*$/gm, "");
 
 /** The members of a type between braces: for each name its type and the names of its parameters, where it has some. */
 function membersOf(body) {

@@ -7,6 +7,7 @@ use crate::lexer::{RawToken, Tokens};
 use crate::{schemas, stack, Limits, MAX_DEPTH};
 use std::ptr;
 
+// tables.toml: statuses as numbers without not_utf8, out_of_memory, invalid_error
 const OK: u32 = 0;
 const SYNTAX_ERROR: u32 = 1;
 const TOO_DEEP: u32 = 4;
@@ -16,6 +17,7 @@ const SOURCE_TOO_LONG: u32 = 7;
 const INVALID_LIMIT: u32 = 8;
 const UNKNOWN_FRAGMENT: u32 = 10;
 const FRAGMENT_CYCLE: u32 = 11;
+// tables.toml: end
 
 /// The number of words of limits.
 pub(crate) const WORDS: usize = 8;

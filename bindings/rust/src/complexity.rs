@@ -15,23 +15,26 @@ pub(crate) const NUMBERS: usize = 5;
 #[derive(Clone, Copy, Debug, Default, PartialEq, Eq, Hash)]
 #[non_exhaustive]
 pub struct Complexity {
+    // tables.toml: complexity as fields
     /// The fields, at every depth.
     pub fields: u32,
     /// The fields with an alias.
     pub aliases: u32,
-    /// The directives of the operation, of its variable definitions, of what is selected, and of a fragment each time that it is
-    /// spread.
+    /// The directives of the operation and of all in it, and of a fragment each time that it is spread.
     pub directives: u32,
     /// The fields that are in no other field.
     pub root_fields: u32,
     /// How many fields are nested in one another at most: 1 if no field is in another.
     pub depth: u32,
+    // tables.toml: end
 }
 
 impl Complexity {
     /// In the order of the limits on them.
     fn numbers(&self) -> [u32; NUMBERS] {
+        // tables.toml: complexity as an array
         [self.fields, self.aliases, self.directives, self.root_fields, self.depth]
+        // tables.toml: end
     }
 }
 

@@ -13,9 +13,14 @@ use std::sync::OnceLock;
 #[non_exhaustive]
 #[repr(u32)]
 pub enum Kind {
+    // tables.toml: kinds
+    /// An operation that only reads.
     Query = 0,
+    /// An operation that writes.
     Mutation = 1,
+    /// A long-lived operation.
     Subscription = 2,
+    /// The definition of a fragment.
     FragmentDefinition = 3,
     /// The variable definitions of an operation.
     VariableDefinitions = 4,
@@ -23,6 +28,7 @@ pub enum Kind {
     VariableDefinition = 5,
     /// The type of a variable.
     Type = 6,
+    /// A field that is selected.
     Field = 7,
     /// The alias of a field.
     Alias = 8,
@@ -30,16 +36,21 @@ pub enum Kind {
     FragmentSpread = 9,
     /// A fragment without a name; its name is its type condition.
     InlineFragment = 10,
+    /// The use of a directive.
     Directive = 11,
     /// The arguments of a field or a directive.
     Arguments = 12,
     /// An argument, by its name.
     Argument = 13,
+    /// The value null.
     Null = 14,
+    /// A value of an enum.
     Enum = 15,
     /// A variable used as a value.
     Variable = 16,
+    /// A list of values.
     List = 17,
+    /// An object, with its fields.
     Object = 18,
     /// A field of an object, by its name.
     ObjectField = 19,
@@ -47,22 +58,27 @@ pub enum Kind {
     Int = 20,
     /// An Int that 32 bits don't hold.
     LargeInt = 21,
+    /// A number with a fraction or an exponent.
     Float = 22,
+    /// A String between quotes.
     String = 23,
+    /// A String between three quotes on each side.
     BlockString = 24,
+    /// True or false.
     Boolean = 25,
+    // tables.toml: end
 }
 
 /// The kinds by their numbers.
 #[rustfmt::skip]
-const KINDS: [Kind; 26] = {
-    use Kind::*;
-    [
-        Query, Mutation, Subscription, FragmentDefinition, VariableDefinitions, VariableDefinition, Type, Field, Alias,
-        FragmentSpread, InlineFragment, Directive, Arguments, Argument, Null, Enum, Variable, List, Object, ObjectField,
-        Int, LargeInt, Float, String, BlockString, Boolean,
-    ]
-};
+// tables.toml: kinds as a list
+const KINDS: [Kind; 26] = [
+    Kind::Query, Kind::Mutation, Kind::Subscription, Kind::FragmentDefinition, Kind::VariableDefinitions,
+    Kind::VariableDefinition, Kind::Type, Kind::Field, Kind::Alias, Kind::FragmentSpread, Kind::InlineFragment,
+    Kind::Directive, Kind::Arguments, Kind::Argument, Kind::Null, Kind::Enum, Kind::Variable, Kind::List, Kind::Object,
+    Kind::ObjectField, Kind::Int, Kind::LargeInt, Kind::Float, Kind::String, Kind::BlockString, Kind::Boolean,
+];
+// tables.toml: end
 
 /// The number of characters of the source, of line feeds, of characters of the line, and of bytes before a position: each is
 /// counted from 0.

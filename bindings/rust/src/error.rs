@@ -81,11 +81,12 @@ impl SyntaxError {
 #[derive(Clone, Copy, Debug, PartialEq, Eq)]
 #[non_exhaustive]
 pub enum ErrorKind {
+    // tables.toml: errors as variants without invalid_scalar
     /// No document could have the token there.
     UnexpectedToken,
     /// The source ends within a document.
     UnexpectedEnd,
-    /// There is no token here.
+    /// There is no token here: the detail says why.
     Lexical,
     /// The token is nested too deep.
     TooDeep,
@@ -95,6 +96,7 @@ pub enum ErrorKind {
     UnknownFragment,
     /// The spread is within the fragment that it names, itself or through others.
     FragmentCycle,
+    // tables.toml: end
     /// The operation exceeds a limit, with every fragment expanded: the message has the number and the limit.
     OperationTooLarge,
 }
@@ -103,17 +105,26 @@ pub enum ErrorKind {
 #[derive(Clone, Copy, Debug, PartialEq, Eq)]
 #[non_exhaustive]
 pub enum ErrorDetail {
+    // tables.toml: details as variants without none, invalid_number
+    /// No token begins with the character.
     UnknownCharacter(char),
+    /// A token has begun, and the character can't follow.
     UnexpectedCharacter(char),
+    /// The source or the line ends within a string.
     UnterminatedString,
+    /// The character is not allowed in a string.
     UnknownCharacterInString(char),
+    /// What follows a backslash in a string is no escape.
     UnknownEscape,
+    /// The source ends within a token.
     UnexpectedEndInToken,
+    // tables.toml: end
 }
 
 impl ErrorKind {
     pub(crate) fn of(number: u32) -> Self {
         match number {
+            // tables.toml: errors as arms without invalid_scalar
             0 => ErrorKind::UnexpectedToken,
             1 => ErrorKind::UnexpectedEnd,
             2 => ErrorKind::Lexical,
@@ -121,6 +132,7 @@ impl ErrorKind {
             4 => ErrorKind::TooManyTokens,
             6 => ErrorKind::UnknownFragment,
             7 => ErrorKind::FragmentCycle,
+            // tables.toml: end
             _ => unreachable!("the library reports no other kind"),
         }
     }
@@ -130,12 +142,14 @@ impl ErrorDetail {
     pub(crate) fn of(number: u32, character: u32) -> Option<Self> {
         let character = char::from_u32(character).unwrap_or(char::REPLACEMENT_CHARACTER);
         match number {
+            // tables.toml: details as arms of some without none, invalid_number
             1 => Some(ErrorDetail::UnknownCharacter(character)),
             2 => Some(ErrorDetail::UnexpectedCharacter(character)),
             3 => Some(ErrorDetail::UnterminatedString),
             4 => Some(ErrorDetail::UnknownCharacterInString(character)),
             5 => Some(ErrorDetail::UnknownEscape),
             6 => Some(ErrorDetail::UnexpectedEndInToken),
+            // tables.toml: end
             _ => None,
         }
     }

@@ -9,7 +9,8 @@ use std::fmt;
 #[non_exhaustive]
 #[repr(u32)]
 pub enum TokenKind {
-    /// The end of the source, which has no bytes.
+    // tables.toml: tokens
+    /// The end of the source, which has no characters.
     EndOfFile = 0,
     /// A name or a word of the language.
     Name = 1,
@@ -21,30 +22,45 @@ pub enum TokenKind {
     Float = 4,
     /// A number without either.
     Int = 5,
+    /// `!`
     ExclamationMark = 6,
+    /// `$`
     Dollar = 7,
+    /// `(`
     ParenOpen = 8,
+    /// `)`
     ParenClose = 9,
+    /// `[`
     BracketOpen = 10,
+    /// `]`
     BracketClose = 11,
+    /// `{`
     CurlyOpen = 12,
+    /// `}`
     CurlyClose = 13,
+    /// `...`
     Ellipsis = 14,
+    /// `:`
     Colon = 15,
+    /// `=`
     Equals = 16,
+    /// `@`
     At = 17,
+    /// `|`
     Pipe = 18,
+    // tables.toml: end
 }
 
 /// The kinds by their numbers.
 #[rustfmt::skip]
-const KINDS: [TokenKind; 19] = {
-    use TokenKind::*;
-    [
-        EndOfFile, Name, String, BlockString, Float, Int, ExclamationMark, Dollar, ParenOpen, ParenClose, BracketOpen,
-        BracketClose, CurlyOpen, CurlyClose, Ellipsis, Colon, Equals, At, Pipe,
-    ]
-};
+// tables.toml: tokens as a list
+const KINDS: [TokenKind; 19] = [
+    TokenKind::EndOfFile, TokenKind::Name, TokenKind::String, TokenKind::BlockString, TokenKind::Float, TokenKind::Int,
+    TokenKind::ExclamationMark, TokenKind::Dollar, TokenKind::ParenOpen, TokenKind::ParenClose, TokenKind::BracketOpen,
+    TokenKind::BracketClose, TokenKind::CurlyOpen, TokenKind::CurlyClose, TokenKind::Ellipsis, TokenKind::Colon,
+    TokenKind::Equals, TokenKind::At, TokenKind::Pipe,
+];
+// tables.toml: end
 
 /// As the library writes it.
 #[repr(C)]

@@ -97,9 +97,11 @@ limits! {{
     depth: u32 = DEFAULT_DEPTH, "How deep brackets may be nested: from 0 to [`MAX_DEPTH`].";
     tokens: u32 = u32::MAX, "How many tokens there may be, the end of the source not counted; [`u32::MAX`] is no limit.";
 } {
-    fields: "How many fields an operation may have.", "fields";
-    aliases: "How many fields with an alias it may have.", "aliases";
-    directives: "How many directives it may have.", "directives";
-    root_fields: "How many of its fields may be in no other field.", "root fields";
-    field_depth: "How many of its fields may be nested in one another.", "levels of fields";
+    // tables.toml: complexity as limits
+    fields: "How many fields an operation may have, with every fragment expanded.", "fields";
+    aliases: "How many aliases an operation may have.", "aliases";
+    directives: "How many directives an operation may have.", "directives";
+    root_fields: "How many fields of an operation may be in no other field.", "root fields";
+    field_depth: "How deep fields may be nested in one another.", "levels of fields";
+    // tables.toml: end
 }}

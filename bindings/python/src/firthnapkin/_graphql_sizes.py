@@ -14,7 +14,15 @@ from .complexities import Complexity
 _LARGEST = _parser.MAX_TOKENS
 
 # What the numbers of a Complexity count, in an error's words.
-_NOUNS = ("fields", "aliases", "directives", "root fields", "levels of fields")
+_NOUNS = (
+    # tables.toml: complexity as nouns
+    "fields",
+    "aliases",
+    "directives",
+    "root fields",
+    "levels of fields",
+    # tables.toml: end
+)
 
 _Definition = Union[ast.OperationDefinitionNode, ast.FragmentDefinitionNode]
 

@@ -10,7 +10,15 @@ from .parts import Position
 from .schemas import note_on
 
 # The statuses of the library.
-_OK, _SYNTAX_ERROR, _TOO_DEEP, _TOO_MANY_TOKENS, _SOURCE_TOO_LONG, _UNKNOWN_FRAGMENT, _FRAGMENT_CYCLE = 0, 1, 4, 5, 7, 10, 11
+# tables.toml: statuses as numbers without not_utf8, out_of_memory, buffer_too_small, invalid_limit, invalid_error
+_OK = 0
+_SYNTAX_ERROR = 1
+_TOO_DEEP = 4
+_TOO_MANY_TOKENS = 5
+_SOURCE_TOO_LONG = 7
+_UNKNOWN_FRAGMENT = 10
+_FRAGMENT_CYCLE = 11
+# tables.toml: end
 
 # That of an operation beyond a limit, which this package adds.
 _OPERATION_TOO_LARGE = 101

@@ -17,11 +17,13 @@ def check(
     name: Optional[str] = None,
     depth: int = 200,
     max_tokens: Optional[int] = None,
+    # tables.toml: complexity as parameters
     max_fields: Optional[int] = None,
     max_aliases: Optional[int] = None,
     max_directives: Optional[int] = None,
     max_root_fields: Optional[int] = None,
     max_field_depth: Optional[int] = None,
+    # tables.toml: end
 ) -> None:
     """Raises the error that `parse` raises for a text within these limits, and returns None for a document.
 
@@ -29,7 +31,18 @@ def check(
     """
     require_text(source, name)
     # A tuple is made in less time than the dict of all local variables.
-    limits = LIMITS.packed((depth, max_tokens, max_fields, max_aliases, max_directives, max_root_fields, max_field_depth))
+    words = (
+        depth,
+        max_tokens,
+        # tables.toml: complexity as arguments
+        max_fields,
+        max_aliases,
+        max_directives,
+        max_root_fields,
+        max_field_depth,
+        # tables.toml: end
+    )
+    limits = LIMITS.packed(words)
     found = _parser.check(encoded(source, name), limits)
     if found is not None:
         given(source, *found, name=name)

@@ -19,17 +19,18 @@ class Complexity(NamedTuple):
     `@include` leave nothing out.
     """
 
+    # tables.toml: complexity as fields
     #: The fields, at every depth.
     fields: int
     #: The fields with an alias.
     aliases: int
-    #: The directives of the operation, of its variable definitions, of what is selected, and of a fragment each time that it is
-    #: spread.
+    #: The directives of the operation and of all in it, and of a fragment each time that it is spread.
     directives: int
     #: The fields that are in no other field.
     root_fields: int
     #: How many fields are nested in one another at most: 1 if no field is in another.
     depth: int
+    # tables.toml: end
 
 
 def complexity_of(complexities: bytes, operation: int) -> Complexity:

@@ -15,22 +15,24 @@ __all__ = ["ErrorDetail", "ErrorKind", "FirthnapkinError"]
 class ErrorKind(enum.Enum):
     """Why a text isn't a document within the limits."""
 
-    #: No document can go on with this token.
+    # tables.toml: errors
+    #: No document could have the token there.
     UNEXPECTED_TOKEN = 0
-    #: The text ends within a document.
+    #: The source ends within a document.
     UNEXPECTED_END = 1
-    #: A lexical error: there is no token here. The error's `detail` says why.
+    #: There is no token here: the detail says why.
     LEXICAL = 2
     #: The token is nested too deep.
     TOO_DEEP = 3
     #: The token is one too many.
     TOO_MANY_TOKENS = 4
-    #: Never reported.
+    #: Never reported, since every token of a literal is read.
     INVALID_SCALAR = 5
     #: The spread names no fragment of the document.
     UNKNOWN_FRAGMENT = 6
     #: The spread is within the fragment that it names, itself or through others.
     FRAGMENT_CYCLE = 7
+    # tables.toml: end
     #: There is half of a surrogate pair alone: such a str can't be encoded as UTF-8.
     SURROGATE = 100
     #: The operation exceeds a limit, with every fragment expanded.
@@ -40,15 +42,24 @@ class ErrorKind(enum.Enum):
 class ErrorDetail(enum.Enum):
     """Why there is no token."""
 
+    # tables.toml: details
+    #: The error isn't lexical.
     NONE = 0
+    #: No token begins with the character.
     UNKNOWN_CHARACTER = 1
+    #: A token has begun, and the character can't follow.
     UNEXPECTED_CHARACTER = 2
+    #: The source or the line ends within a string.
     UNTERMINATED_STRING = 3
+    #: The character is not allowed in a string.
     UNKNOWN_CHARACTER_IN_STRING = 4
+    #: What follows a backslash in a string is no escape.
     UNKNOWN_ESCAPE = 5
+    #: The source ends within a token.
     UNEXPECTED_END_IN_TOKEN = 6
     #: Never reported.
     INVALID_NUMBER = 7
+    # tables.toml: end
 
 
 class FirthnapkinError(ValueError):

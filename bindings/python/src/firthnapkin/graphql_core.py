@@ -36,11 +36,13 @@ def parse(
     allow_legacy_fragment_variables: bool = False,
     *others: Any,
     depth: int = 200,
+    # tables.toml: complexity as parameters
     max_fields: Optional[int] = None,
     max_aliases: Optional[int] = None,
     max_directives: Optional[int] = None,
     max_root_fields: Optional[int] = None,
     max_field_depth: Optional[int] = None,
+    # tables.toml: end
     **options: Any,
 ) -> ast.DocumentNode:
     """Returns graphql-core's DocumentNode of a source.

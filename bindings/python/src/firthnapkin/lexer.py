@@ -17,7 +17,8 @@ __all__ = ["Token", "TokenKind", "Tokens", "canonical", "tokens"]
 class TokenKind(enum.Enum):
     """The kind of a token."""
 
-    #: The end of the text.
+    # tables.toml: tokens
+    #: The end of the source, which has no characters.
     END_OF_FILE = 0
     #: A name or a word of the language.
     NAME = 1
@@ -29,19 +30,33 @@ class TokenKind(enum.Enum):
     FLOAT = 4
     #: A number without either.
     INT = 5
+    #: `!`
     EXCLAMATION_MARK = 6
+    #: `$`
     DOLLAR = 7
+    #: `(`
     PAREN_OPEN = 8
+    #: `)`
     PAREN_CLOSE = 9
+    #: `[`
     BRACKET_OPEN = 10
+    #: `]`
     BRACKET_CLOSE = 11
+    #: `{`
     CURLY_OPEN = 12
+    #: `}`
     CURLY_CLOSE = 13
+    #: `...`
     ELLIPSIS = 14
+    #: `:`
     COLON = 15
+    #: `=`
     EQUALS = 16
+    #: `@`
     AT = 17
+    #: `|`
     PIPE = 18
+    # tables.toml: end
 
 
 _KINDS = {kind.value: kind for kind in TokenKind}

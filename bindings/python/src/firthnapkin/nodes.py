@@ -17,9 +17,14 @@ __all__ = ["Kind", "Node", "Nodes"]
 class Kind(enum.Enum):
     """The kind of a part that a node stands for."""
 
+    # tables.toml: kinds
+    #: An operation that only reads.
     QUERY = 0
+    #: An operation that writes.
     MUTATION = 1
+    #: A long-lived operation.
     SUBSCRIPTION = 2
+    #: The definition of a fragment.
     FRAGMENT_DEFINITION = 3
     #: The variable definitions of an operation.
     VARIABLE_DEFINITIONS = 4
@@ -27,34 +32,45 @@ class Kind(enum.Enum):
     VARIABLE_DEFINITION = 5
     #: The type of a variable.
     TYPE = 6
+    #: A field that is selected.
     FIELD = 7
     #: The alias of a field.
     ALIAS = 8
     #: The use of a fragment by its name.
     FRAGMENT_SPREAD = 9
-    #: A fragment without a name.
+    #: A fragment without a name; its name is its type condition.
     INLINE_FRAGMENT = 10
+    #: The use of a directive.
     DIRECTIVE = 11
     #: The arguments of a field or a directive.
     ARGUMENTS = 12
     #: An argument, by its name.
     ARGUMENT = 13
+    #: The value null.
     NULL = 14
+    #: A value of an enum.
     ENUM = 15
     #: A variable used as a value.
     VARIABLE = 16
+    #: A list of values.
     LIST = 17
+    #: An object, with its fields.
     OBJECT = 18
     #: A field of an object, by its name.
     OBJECT_FIELD = 19
-    #: An Int that fits into 32 bits.
+    #: An Int that 32 bits hold.
     INT = 20
-    #: An Int that doesn't.
+    #: An Int that 32 bits don't hold.
     LARGE_INT = 21
+    #: A number with a fraction or an exponent.
     FLOAT = 22
+    #: A String between quotes.
     STRING = 23
+    #: A String between three quotes on each side.
     BLOCK_STRING = 24
+    #: True or false.
     BOOLEAN = 25
+    # tables.toml: end
 
 
 _KINDS = {kind.value: kind for kind in Kind}

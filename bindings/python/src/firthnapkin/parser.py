@@ -18,11 +18,13 @@ def parse(
     name: Optional[str] = None,
     depth: Annotated[int, Limit("how deep brackets may be nested", largest=_parser.MAX_DEPTH)] = 200,
     max_tokens: Annotated[Optional[int], Limit("how many tokens a request may have", unlimited=_parser.MAX_TOKENS)] = None,
-    max_fields: Annotated[Optional[int], SizeLimit("how many fields an operation may have")] = None,
+    # tables.toml: complexity as limits
+    max_fields: Annotated[Optional[int], SizeLimit("how many fields an operation may have, with every fragment expanded")] = None,
     max_aliases: Annotated[Optional[int], SizeLimit("how many aliases an operation may have")] = None,
     max_directives: Annotated[Optional[int], SizeLimit("how many directives an operation may have")] = None,
     max_root_fields: Annotated[Optional[int], SizeLimit("how many fields of an operation may be in no other field")] = None,
     max_field_depth: Annotated[Optional[int], SizeLimit("how deep fields may be nested in one another")] = None,
+    # tables.toml: end
 ) -> Document:
     """Returns the document of a text, with brackets nested at most `depth` deep. Other threads run meanwhile.
 
