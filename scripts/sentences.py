@@ -64,7 +64,7 @@ SENTENCES = [
     ("more than # characters (?:the )?#", ["long", "shown"], "SPECIFICATION firthnapkin.3 header"),
     ("from # before the (?:error's )?column", ["before"], "SPECIFICATION header"),
     ("[Nn]umbered from #", ["people"], "firthnapkin.3 header types"),
-    ("(?i:`line` and `column`), both counted from #|olumns? for people count from #", ["people"], "FROM_C go node rust"),
+    ("(?i:`line` and `column`), both counted from #|olumns? for people count from #", ["people"], "go node rust"),
     ("(?:starts?|units), (?:both )?(?:counted )?from #", ["people"], "python types"),
     ("its line and column, both counted from #|bytes of UTF-8. So each is counted from #", ["programs"], "gqlcanon.1 gqlcheck.1 types"),
     ("(?:return|find) the # of a name", ["of a name"], "ASSURANCE go node rust"),
