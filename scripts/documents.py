@@ -3,10 +3,24 @@
 import re
 
 LINK = re.compile(r"\]\(([^()\s]+)\)")
+# Words at which a reader stops: a document says the same in others.
+WORN = re.compile(
+    r"\b(?:but for|as many as|one too many|is that one|no such|of one's own|cut into tokens|hand(?:s|ed|ing)?(?: \w+)? (?:over|back)"
+    r"|len(?:ds?|t|ding)|doubled|answered|answering|answers? (?:with|by|what|whether|how)"
+    r"|(?:call|function|parser|library|program|script|server|test)s? answers?"
+    r"|(?:to|it|that|which|who|they|we|you|can|may|must|should|will|would|not|\w+n't) answers?)\b",
+    re.I,
+)
 
 
 def outside_fences(text):
     return re.sub(r"^```.*?^```$", "", text, flags=re.S | re.M)
+
+
+def worn(text):
+    """The words of WORN in a document's own sentences: not in code, and not in quotations."""
+    quoted = r"``.*?``|`[^`\n]*`|\"[^\"\n]*\"|^ {4}.*$|^>.*$"
+    return WORN.findall(" ".join(re.sub(quoted, " ", outside_fences(text), flags=re.M).split()))
 
 
 def fences(text):
