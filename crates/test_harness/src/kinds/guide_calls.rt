@@ -1,21 +1,21 @@
 //! The functions of the guide.
 
-use crate::guide::{
-    AnswerFailure, CostFailure, Store, answer_json, argument_value, broken_rules, definition_names,
-    fault_line, field_names, is_document, is_document_within, kept_up_to, parse_affordable,
-    same_literal, store_query, stored_query,
-};
 use crate::kinds::input_values::variables_of;
 use crate::kinds::word_of;
 use crate::parsing::{Document, Input, document, literal};
 use crate::write::{
     Written, write_failure, write_items, write_optional, write_separator, write_span, write_truth,
 };
+use guide::{
+    AnswerFailure, CostFailure, Store, answer_json, argument_value, broken_rules, definition_names,
+    fault_line, field_names, is_document, is_document_within, kept_up_to, parse_affordable,
+    same_literal, store_query, stored_query,
+};
 use juniper::{
-    DefaultScalarValue, Definition, Field, LimitFailure, Limits, ParseFailure, Selection, Span,
+    DefaultScalarValue, Definition, Field, LexFailure, LimitFailure, Limits, ParseFailure,
+    Selection, Span,
 };
 use juniper_complexity::ComplexityFailure;
-use juniper_tokens::LexFailure;
 use std::alloc::Global;
 use std::collections::BTreeMap;
 
