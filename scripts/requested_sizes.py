@@ -62,9 +62,9 @@ SIZES = {
     ("juniper_values/src/input_value/resolve.rt", "constant_fields"): [("Vec::with_capacity(alloc, fields.len())", EACH)],
     ("juniper_values/src/type_literal.rt", "grown"): [("Vec::with_capacity(alloc, inner.len() + 1)", EACH)],
     ("test_harness/src/calls.rt", "tell_answers"): [("String::with_capacity(rt.alloc(), ROOM)", FIXED)],
-    ("test_harness/src/guide/executor.rt", "executed"): [("Object::with_capacity(alloc, operation.selection_set.len())", EACH)],
-    ("test_harness/src/guide/executor.rt", "constant_items"): [("Vec::with_capacity(alloc, items.len())", EACH)],
-    ("test_harness/src/guide/executor.rt", "constant_fields"): [("Object::with_capacity(alloc, fields.len())", EACH)],
+    ("guide/src/executor.rt", "executed"): [("Object::with_capacity(alloc, operation.selection_set.len())", EACH)],
+    ("guide/src/executor.rt", "constant_items"): [("Vec::with_capacity(alloc, items.len())", EACH)],
+    ("guide/src/executor.rt", "constant_fields"): [("Object::with_capacity(alloc, fields.len())", EACH)],
     ("test_harness/src/kinds/answers.rt", "empty"): [
         ("Object::with_capacity( alloc, number.parse::<usize>().unwrap_or(0), )", TOLD)
     ],

@@ -48,11 +48,11 @@ LIBRARY = ROOT / "out/libfirthnapkin.so.0"
 COMPLETION = "completion of a refused text"
 SAME = "canonical text of a row"
 COUNTS = {"gqlcheck": 2127, "built": 4, "completed": 8, "canonical": 29, COMPLETION: 462, SAME: 636}
-COUNTS.update(lexer=73, line_table=1, type=5, value=34, const=1, document=44, within=14, limited=23, equal=25, large=4)
+COUNTS.update(lexer=73, line_table=1, value=34, const=1, document=44, within=14, limited=23, equal=25, large=4)
 COUNTS.update(odd_document=25, complexities=2034, bytes=2)
 
 # Of the kinds of run_calls those whose rows make calls, with the number of their rows.
-CALLS = {"cursor": 14, "requests": 7, "arguments": 12, "answer": 17, "devices": 2, "input_value": 22, "scalar": 24,
+CALLS = {"cursor": 19, "requests": 7, "arguments": 12, "answer": 17, "devices": 2, "input_value": 22, "scalar": 24,
          "odd_scalar": 42, "type_literal": 4, "name": 11, "into": 4, "guide": 46}  # fmt: skip
 COUNTS.update(CALLS)
 

@@ -36,12 +36,9 @@ pub fn write_answer(
     match kind {
         "lexer" => lexing::write_items(alloc, out, text),
         "line_table" => lexing::write_places(alloc, out, text),
-        "type" => literals::write_type_in(alloc, out, text),
         "value" => literals::write_value_in(alloc, out, text, false),
         "const" => literals::write_value_in(alloc, out, text, true),
-        "document" => documents::write_tree(alloc, out, text),
-        "within" => documents::write_tree_within(alloc, out, text),
-        "limited" => documents::write_tree_limited(alloc, out, text),
+        "document" | "within" | "limited" => documents::write_tree(alloc, out, kind, text),
         "equal" => documents::write_equal(alloc, out, text),
         "odd_document" => odd::write_arguments_of(alloc, out, text),
         "pushed" => documents::write_counts(alloc, out, text),
@@ -49,36 +46,56 @@ pub fn write_answer(
         "cursor" => cursor::write_calls(alloc, out, text, calls),
         "arguments" => documents::write_calls(alloc, out, text, calls),
         "requests" => requests::write_calls(alloc, out, text, calls),
-        "bytes" => requests::write_bytes(alloc, out, text),
-        "byte_table" => requests::write_byte_table(alloc, out, text),
+        "bytes" | "byte_table" => requests::write_bytes(alloc, out, kind, text),
         "complexities" => complexities::write_complexities(alloc, out, text),
         "answer" => answers::write_calls(alloc, out, text, calls),
-        _ => write_calls(alloc, out, kind, text, calls),
+        _ => write_lines(alloc, out, &mut Anew { kind, text }, calls),
     }
 }
 
-// The results of calls, each of which begins with the text anew.
-fn write_calls(alloc: Global, out: &mut String, kind: &str, text: &str, calls: &str) -> Written {
+/// What calls are made on, one after another.
+pub(crate) trait Subject {
+    /// Writes what a call returns.
+    fn answer(&mut self, alloc: Global, out: &mut String, call: &str) -> Written;
+}
+
+/// Writes a line for each call: the call, and what it returns.
+pub(crate) fn write_lines<T: Subject>(
+    alloc: Global,
+    out: &mut String,
+    subject: &mut T,
+    calls: &str,
+) -> Written {
     for call in calls.lines() {
         write!(out, "{call} -> ")?;
-        answer_call(alloc, out, kind, text, call)?;
+        subject.answer(alloc, out, call)?;
         out.push('\n')?;
     }
     Ok(())
 }
 
-fn answer_call(alloc: Global, out: &mut String, kind: &str, text: &str, call: &str) -> Written {
-    match kind {
-        "devices" => devices::answer(alloc, out, text, call),
-        "input_value" => input_values::answer(alloc, out, text, call),
-        "scalar" => scalars::answer::<DefaultScalarValue>(alloc, out, text, call),
-        "odd_scalar" => odd::answer(alloc, out, text, call),
-        "type_literal" => types::answer(alloc, out, text, call),
-        "object" => answers::answer_made(alloc, out, text, call),
-        "name" => answers::answer_name(alloc, out, text, call),
-        "into" => conversions::answer(alloc, out, text, call),
-        "guide" => guide_calls::answer(alloc, out, text, call),
-        _ => out.push_str("no such kind"),
+// Calls of a kind, each of which begins with the text anew.
+#[derive(Drop)]
+struct Anew<'a> {
+    kind: &'a str,
+    text: &'a str,
+}
+
+impl Subject for Anew<'_> {
+    fn answer(&mut self, alloc: Global, out: &mut String, call: &str) -> Written {
+        let text = self.text;
+        match self.kind {
+            "devices" => devices::answer(alloc, out, text, call),
+            "input_value" => input_values::answer(alloc, out, text, call),
+            "scalar" => scalars::answer::<DefaultScalarValue>(alloc, out, text, call),
+            "odd_scalar" => odd::answer(alloc, out, text, call),
+            "type_literal" => types::answer(alloc, out, text, call),
+            "object" => answers::answer_made(alloc, out, text, call),
+            "name" => answers::answer_name(alloc, out, text, call),
+            "into" => conversions::answer(alloc, out, text, call),
+            "guide" => guide_calls::answer(alloc, out, text, call),
+            _ => out.push_str("no such kind"),
+        }
     }
 }
 

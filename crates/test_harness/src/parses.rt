@@ -1,9 +1,9 @@
 //! A parse of a document, reported as it comes.
 
-use crate::parsing::{Document, document};
+use crate::parsing::{Document, document_within};
 use juniper::{
     DefaultScalarValue, Definition, DefinitionSink, LimitFailure, Limits, ParseFailure,
-    parse_document_source_into, parse_document_source_within,
+    parse_document_source_into,
 };
 use std::alloc::{AllocError, Global};
 use std::io;
@@ -33,13 +33,7 @@ impl DefinitionSink<DefaultScalarValue> for Given {
 
 // The tree of a text, within a limit on nesting where the word is a number.
 fn parsed<'a>(alloc: Global, word: &str, text: &'a str) -> Result<Document<'a>, LimitFailure> {
-    match word.parse::<usize>() {
-        Ok(depth) => Ok(parse_document_source_within(alloc, text, depth)?),
-        Err(_) => match document(alloc, text) {
-            Ok(document) => Ok(document),
-            Err(failure) => Err(LimitFailure::Parse(failure)),
-        },
-    }
+    document_within(alloc, text, word.parse::<usize>().ok(), None)
 }
 
 // Whether another parse gives the same tree.

@@ -2,9 +2,9 @@
 ghost use Rattle.juniper_tokens.specs.Delimited.{Leaves};
 
 use juniper::{
-    DefaultScalarValue, InputValue, Lexer, OwnedDocument, ParseFailure, ParseResult, Parser,
-    Spanning, Token, Type, UnlocatedParseResult, parse_document_source, parse_type,
-    parse_value_literal,
+    DefaultScalarValue, InputValue, Lexer, LimitFailure, Limits, OwnedDocument, ParseFailure,
+    ParseResult, Parser, Spanning, Token, Type, UnlocatedParseResult, parse_document_source,
+    parse_document_source_limited, parse_document_source_within, parse_type, parse_value_literal,
 };
 use std::alloc::{AllocError, Global};
 
@@ -18,6 +18,25 @@ pub type Fields = Vec<(Spanning<String>, Spanning<Input>)>;
 /// The document that a text is.
 pub fn document(alloc: Global, source: &str) -> UnlocatedParseResult<Document<'_>> {
     parse_document_source(alloc, source)
+}
+
+/// The same within a limit on nesting, or within limits on nesting and on tokens, where these are given.
+pub fn document_within(
+    alloc: Global,
+    source: &str,
+    depth: Option<usize>,
+    tokens: Option<usize>,
+) -> Result<Document<'_>, LimitFailure> {
+    match (depth, tokens) {
+        (Some(depth), Some(tokens)) => {
+            parse_document_source_limited(alloc, source, Limits { depth, tokens })
+        }
+        (Some(depth), None) => Ok(parse_document_source_within(alloc, source, depth)?),
+        _ => match document(alloc, source) {
+            Ok(document) => Ok(document),
+            Err(failure) => Err(LimitFailure::Parse(failure)),
+        },
+    }
 }
 
 /// The value literal that a text begins with, if any.

@@ -1,36 +1,42 @@
 //! How places, tokens, errors and what calls make are written in a row's result.
 
-use juniper::{LexerError, ParseError, ParseFailure, SourcePosition, Span, Spanning, Token};
+use juniper::{LexerError, LimitFailure, ParseError, ParseFailure, Span, Spanning, Token};
+use juniper_complexity::ComplexityFailure;
 use std::alloc::AllocError;
 use std::fmt;
 
 /// The result of writing.
 pub type Written = Result<(), AllocError>;
 
-fn write_place(out: &mut String, place: SourcePosition) -> Written {
-    let index = place.index();
-    let line = place.line();
-    let column = place.column();
-    write!(out, "{index}:{line}:{column}")
+/// A span, shown as the index, line and column of its start and end.
+#[derive(Clone, Copy)]
+pub struct At<'s>(pub &'s Span);
+
+impl fmt::Display for At<'_> {
+    fn fmt<W: fmt::Write>(&self, f: &mut fmt::Formatter<W>) -> fmt::Result {
+        let start = self.0.start;
+        let end = self.0.end;
+        let first = start.index();
+        let last = end.index();
+        write!(f, "{first}:{start}-{last}:{end}")
+    }
 }
 
-/// Writes the index, line and column of a span's start and end.
+/// Writes a span.
 pub fn write_span(out: &mut String, span: &Span) -> Written {
-    write_place(out, span.start)?;
-    out.push('-')?;
-    write_place(out, span.end)
+    let at = At(span);
+    write!(out, "{at}")
 }
 
 /// Writes a token's span, its kind, and its text if that isn't empty.
 pub fn write_token(out: &mut String, token: &Spanning<Token<'_>>) -> Written {
-    write_span(out, &token.span)?;
+    let at = At(&token.span);
     let kind = token.item.kind();
-    write!(out, " {kind:?}")?;
     let text = token.item.text();
     if text.is_empty() {
-        return Ok(());
+        return write!(out, "{at} {kind:?}");
     }
-    write!(out, " {text}")
+    write!(out, "{at} {kind:?} {text}")
 }
 
 fn write_lexer_error(out: &mut String, error: &LexerError) -> Written {
@@ -73,6 +79,30 @@ pub fn write_failure(out: &mut String, failure: ParseFailure) -> Written {
         }
         ParseFailure::Memory => out.push_str("Memory"),
     }
+}
+
+/// Writes why a text has no tree within limits: what the parser says, or where a limit was passed, and which.
+pub fn write_limit(out: &mut String, failure: LimitFailure) -> Written {
+    match failure {
+        LimitFailure::Parse(failure) => write_failure(out, failure),
+        LimitFailure::TooDeep(span) => write_word_at(out, &span, "TooDeep"),
+        LimitFailure::TooMany(span) => write_word_at(out, &span, "TooMany"),
+    }
+}
+
+/// Writes the first spread that can't be expanded, and why.
+pub fn write_spread(out: &mut String, failure: ComplexityFailure) -> Written {
+    match failure {
+        ComplexityFailure::Cycle(span) => write_word_at(out, &span, "Cycle"),
+        ComplexityFailure::Unknown(span) => write_word_at(out, &span, "Unknown"),
+        ComplexityFailure::Memory => out.push_str("Memory"),
+    }
+}
+
+/// Writes a span and a word.
+pub fn write_word_at(out: &mut String, span: &Span, word: &str) -> Written {
+    let at = At(span);
+    write!(out, "{at} {word}")
 }
 
 /// Writes what was made, or `Memory`.
@@ -120,6 +150,16 @@ pub fn write_items<T: fmt::Display>(out: &mut String, items: &[T]) -> Written {
 pub fn write_separator(out: &mut String, before: usize) -> Written {
     if out.len() > before {
         out.push_str(", ")?;
+    }
+    Ok(())
+}
+
+/// Writes what names a span, with commas between: each span and its text.
+pub fn write_placed(out: &mut String, items: &[Spanning<&str>]) -> Written {
+    let before = out.len();
+    for item in items {
+        write_separator(out, before)?;
+        write_word_at(out, &item.span, item.item)?;
     }
     Ok(())
 }

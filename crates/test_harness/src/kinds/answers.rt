@@ -1,7 +1,7 @@
 //! Answer values, objects and names.
 
 use crate::kinds::input_values::is_unlocated;
-use crate::kinds::word_of;
+use crate::kinds::{Subject, word_of, write_lines};
 use crate::parsing::{Input, fields_of, literal};
 use crate::write::{Written, write_both, write_made, write_optional, write_separator, write_truth};
 use juniper::{
@@ -17,18 +17,9 @@ type Answer = Value<DefaultScalarValue>;
 /// text, of a variable null.
 pub fn write_calls(alloc: Global, out: &mut String, text: &str, calls: &str) -> Written {
     match answer_in(alloc, text)? {
-        Some(mut value) => answer_calls(alloc, out, &mut value, calls),
+        Some(mut value) => write_lines(alloc, out, &mut value, calls),
         None => out.push_str("no value\n"),
     }
-}
-
-fn answer_calls(alloc: Global, out: &mut String, value: &mut Answer, calls: &str) -> Written {
-    for call in calls.lines() {
-        write!(out, "{call} -> ")?;
-        answer_call(alloc, out, value, call)?;
-        out.push('\n')?;
-    }
-    Ok(())
 }
 
 fn answer_in(alloc: Global, text: &str) -> Result<Option<Answer>, AllocError> {
@@ -112,13 +103,15 @@ fn empty(alloc: Global, number: &str) -> Result<Answer, AllocError> {
     Ok(Value::object(object))
 }
 
-fn answer_call(alloc: Global, out: &mut String, value: &mut Answer, call: &str) -> Written {
-    let (word, rest) = word_of(call);
-    match word {
-        "display" => write!(out, "{value}"),
-        "to_input_value" => write_input(alloc, out, value),
-        "parts" => write_parts(out, value),
-        _ => answer_whole(alloc, out, value, word, rest),
+impl Subject for Answer {
+    fn answer(&mut self, alloc: Global, out: &mut String, call: &str) -> Written {
+        let (word, rest) = word_of(call);
+        match word {
+            "display" => write!(out, "{self}"),
+            "to_input_value" => write_input(alloc, out, self),
+            "parts" => write_parts(out, self),
+            _ => answer_whole(alloc, out, self, word, rest),
+        }
     }
 }
 
@@ -178,17 +171,17 @@ fn write_compared(alloc: Global, out: &mut String, value: &Answer, other: &str) 
 // The input value of an answer value, and whether it has no place.
 fn write_input(alloc: Global, out: &mut String, value: &Answer) -> Written {
     match value.to_input_value(alloc) {
-        Ok(input) => write_unlocated(out, &input),
+        Ok(input) => write_unlocated(alloc, out, &Spanning::unlocated(input)),
         Err(_) => out.push_str("Memory"),
     }
 }
 
-fn write_unlocated(out: &mut String, input: &Input) -> Written {
-    write!(out, "{input}")?;
-    if is_unlocated(input) {
-        return out.push_str(", unlocated");
+fn write_unlocated(alloc: Global, out: &mut String, input: &Spanning<Input>) -> Written {
+    let value = &input.item;
+    if is_unlocated(alloc, input)? {
+        return write!(out, "{value}, unlocated");
     }
-    Ok(())
+    write!(out, "{value}")
 }
 
 // Which variant a value is, as its calls report it.

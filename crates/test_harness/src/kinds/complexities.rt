@@ -1,9 +1,8 @@
 //! The complexities of a document's operations, a line each.
 
 use crate::parsing::{Document, document};
-use crate::write::{Written, write_refusal, write_span};
-use juniper::Span;
-use juniper_complexity::{ComplexityFailure, OperationComplexity, operation_complexities};
+use crate::write::{Written, write_refusal, write_spread};
+use juniper_complexity::{OperationComplexity, operation_complexities};
 use std::alloc::Global;
 
 /// `complexities`: of each operation its index among the definitions, its fields, aliases, directives and root fields, and its
@@ -18,9 +17,10 @@ pub fn write_complexities(alloc: Global, out: &mut String, text: &str) -> Writte
 fn write_expanded(alloc: Global, out: &mut String, document: Document<'_>) -> Written {
     match operation_complexities(alloc, &document) {
         Ok(complexities) => write_each(out, &complexities),
-        Err(ComplexityFailure::Cycle(span)) => write_spread(out, &span, " Cycle\n"),
-        Err(ComplexityFailure::Unknown(span)) => write_spread(out, &span, " Unknown\n"),
-        Err(ComplexityFailure::Memory) => out.push_str("Memory\n"),
+        Err(failure) => {
+            write_spread(out, failure)?;
+            out.push('\n')
+        }
     }
 }
 
@@ -42,9 +42,4 @@ fn write_one(out: &mut String, operation: &OperationComplexity) -> Written {
         out,
         "{index}: {fields} {aliases} {directives} {roots} {depth}"
     )
-}
-
-fn write_spread(out: &mut String, span: &Span, fault: &str) -> Written {
-    write_span(out, span)?;
-    out.push_str(fault)
 }

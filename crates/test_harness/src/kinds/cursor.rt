@@ -1,9 +1,11 @@
 //! The cursor.
 
 use crate::kinds::lexing::write_left;
-use crate::kinds::word_of;
+use crate::kinds::{Subject, word_of, write_lines};
 use crate::parsing::{names, some_names, some_texts, type_in, value_in};
-use crate::write::{Written, write_failure, write_refusal, write_span, write_token};
+use crate::write::{
+    At, Written, write_failure, write_placed, write_refusal, write_span, write_token,
+};
 use juniper::{
     LexFailure, Lexer, OptionParseResult, ParseFailure, ParseResult, Parser, Span, Spanning, Token,
 };
@@ -31,41 +33,34 @@ pub fn write_tokens(alloc: Global, out: &mut String, text: &str) -> Written {
 pub fn write_calls(alloc: Global, out: &mut String, text: &str, calls: &str) -> Written {
     let mut lexer = Lexer::new(alloc, text);
     match Parser::new(&mut lexer) {
-        Ok(mut parser) => answer_calls(out, &mut parser, calls),
+        Ok(mut parser) => write_lines(alloc, out, &mut parser, calls),
         Err(LexFailure::Memory) => Err(AllocError),
         Err(failure) => write_refusal(out, ParseFailure::from(failure)),
     }
 }
 
-fn answer_calls(out: &mut String, parser: &mut Parser<'_>, calls: &str) -> Written {
-    for call in calls.lines() {
-        write!(out, "{call} -> ")?;
-        answer_call(out, parser, call)?;
-        out.push('\n')?;
-    }
-    Ok(())
-}
-
-fn answer_call(out: &mut String, parser: &mut Parser<'_>, call: &str) -> Written {
-    let (word, rest) = word_of(call);
-    match word {
-        "peek" => write_token(out, parser.peek()),
-        "next_token" => write_taken(out, parser.next_token()),
-        "expect_name" => write_read(out, parser.expect_name()),
-        "expect" => expect(out, parser, rest),
-        "skip" => skip(out, parser, rest),
-        "rest" => write_rest(out, parser),
-        _ => answer_read(out, parser, call),
+impl Subject for Parser<'_> {
+    fn answer(&mut self, alloc: Global, out: &mut String, call: &str) -> Written {
+        let (word, rest) = word_of(call);
+        match word {
+            "peek" => write_token(out, self.peek()),
+            "next_token" => write_taken(out, self.next_token()),
+            "expect_name" => write_read(out, self.expect_name()),
+            "expect" => expect(alloc, out, self, rest),
+            "skip" => skip(alloc, out, self, rest),
+            "rest" => write_rest(out, self),
+            _ => answer_read(alloc, out, self, call),
+        }
     }
 }
 
 // A call that reads more than one token.
-fn answer_read(out: &mut String, parser: &mut Parser<'_>, call: &str) -> Written {
+fn answer_read(alloc: Global, out: &mut String, parser: &mut Parser<'_>, call: &str) -> Written {
     match call {
         "parse_type" => write_read(out, type_in(parser)),
         "parse_value_literal" => write_read(out, value_in(parser, false)),
         "parse_value_literal_const" => write_read(out, value_in(parser, true)),
-        _ => answer_list(out, parser, call),
+        _ => answer_list(alloc, out, parser, call),
     }
 }
 
@@ -82,15 +77,15 @@ fn write_rest(out: &mut String, parser: &mut Parser<'_>) -> Written {
     Ok(())
 }
 
-fn expect(out: &mut String, parser: &mut Parser<'_>, wanted: &str) -> Written {
-    match first_token(parser.allocator(), wanted) {
+fn expect(alloc: Global, out: &mut String, parser: &mut Parser<'_>, wanted: &str) -> Written {
+    match first_token(alloc, wanted) {
         Some(token) => write_taken(out, parser.expect(&token)),
         None => out.push_str("no token"),
     }
 }
 
-fn skip(out: &mut String, parser: &mut Parser<'_>, wanted: &str) -> Written {
-    match first_token(parser.allocator(), wanted) {
+fn skip(alloc: Global, out: &mut String, parser: &mut Parser<'_>, wanted: &str) -> Written {
+    match first_token(alloc, wanted) {
         Some(token) => write_skipped(out, parser.skip(&token)),
         None => out.push_str("no token"),
     }
@@ -128,18 +123,18 @@ fn write_read<T: fmt::Display + Drop>(out: &mut String, read: ParseResult<T>) ->
 }
 
 fn write_spanned<T: fmt::Display>(out: &mut String, read: &Spanning<T>) -> Written {
-    write_span(out, &read.span)?;
+    let at = At(&read.span);
     let item = &read.item;
-    write!(out, " {item}")
+    write!(out, "{at} {item}")
 }
 
-fn answer_list(out: &mut String, parser: &mut Parser<'_>, call: &str) -> Written {
+fn answer_list(alloc: Global, out: &mut String, parser: &mut Parser<'_>, call: &str) -> Written {
     let (word, brackets) = word_of(call);
     let (opening, closing) = word_of(brackets);
-    let Some(opening) = first_token(parser.allocator(), opening) else {
+    let Some(opening) = first_token(alloc, opening) else {
         return out.push_str("no opening token");
     };
-    let Some(closing) = first_token(parser.allocator(), closing) else {
+    let Some(closing) = first_token(alloc, closing) else {
         return out.push_str("no closing token");
     };
     answer_between(out, parser, word, &opening, &closing)
@@ -171,11 +166,11 @@ fn write_names(out: &mut String, list: ParseResult<Vec<Spanning<&str>>>) -> Writ
 
 fn write_name_list(out: &mut String, span: &Span, names: &[Spanning<&str>]) -> Written {
     write_span(out, span)?;
-    for name in names {
-        out.push_str(", ")?;
-        write_spanned(out, name)?;
+    if names.is_empty() {
+        return Ok(());
     }
-    Ok(())
+    out.push_str(", ")?;
+    write_placed(out, names)
 }
 
 fn write_texts(out: &mut String, list: ParseResult<Vec<&str>>) -> Written {

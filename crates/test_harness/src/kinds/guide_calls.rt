@@ -1,21 +1,21 @@
 //! The functions of the guide.
 
-use crate::guide::{
-    AnswerFailure, CostFailure, Store, answer_json, argument_value, broken_rules, definition_names,
-    fault_line, field_names, is_document, is_document_within, kept_up_to, parse_affordable,
-    same_literal, store_query, stored_query,
-};
 use crate::kinds::input_values::variables_of;
 use crate::kinds::word_of;
 use crate::parsing::{Document, Input, document, literal};
 use crate::write::{
-    Written, write_failure, write_items, write_optional, write_separator, write_span, write_truth,
+    Written, write_failure, write_items, write_limit, write_optional, write_separator, write_span,
+    write_spread, write_truth, write_word_at,
+};
+use guide::{
+    AnswerFailure, CostFailure, Store, answer_json, argument_value, broken_rules, definition_names,
+    fault_line, field_names, is_document, is_document_within, kept_up_to, parse_affordable,
+    same_literal, store_query, stored_query,
 };
 use juniper::{
-    DefaultScalarValue, Definition, Field, LimitFailure, Limits, ParseFailure, Selection, Span,
+    DefaultScalarValue, Definition, Field, LexFailure, LimitFailure, Limits, ParseFailure,
+    Selection, Span,
 };
-use juniper_complexity::ComplexityFailure;
-use juniper_tokens::LexFailure;
 use std::alloc::Global;
 use std::collections::BTreeMap;
 
@@ -121,30 +121,9 @@ fn write_answer(alloc: Global, out: &mut String, text: &str, call: &str) -> Writ
         Ok(answer) => out.push_str(answer.as_str()),
         Err(AnswerFailure::Parse(failure)) => write_failure(out, failure),
         Err(AnswerFailure::Operation(failure)) => write!(out, "{failure:?}"),
-        Err(AnswerFailure::Fragment(span)) => write_named(out, "Fragment ", &span),
+        Err(AnswerFailure::Fragment(span)) => write_word_at(out, &span, "Fragment"),
         Err(AnswerFailure::Memory) => out.push_str("Memory"),
     }
-}
-
-fn write_limit(out: &mut String, failure: LimitFailure) -> Written {
-    match failure {
-        LimitFailure::Parse(failure) => write_failure(out, failure),
-        LimitFailure::TooDeep(span) => write_named(out, "TooDeep ", &span),
-        LimitFailure::TooMany(span) => write_named(out, "TooMany ", &span),
-    }
-}
-
-fn write_spread(out: &mut String, failure: ComplexityFailure) -> Written {
-    match failure {
-        ComplexityFailure::Cycle(span) => write_named(out, "Cycle ", &span),
-        ComplexityFailure::Unknown(span) => write_named(out, "Unknown ", &span),
-        ComplexityFailure::Memory => out.push_str("Memory"),
-    }
-}
-
-fn write_named(out: &mut String, name: &str, span: &Span) -> Written {
-    out.push_str(name)?;
-    write_span(out, span)
 }
 
 // A call on the text's tree.

@@ -10,6 +10,7 @@ use indexmap::IndexMap;
 use juniper::{
     DefaultScalarValue, InputValue, IntoInputValue, Span, Spanning, Variables, input_value_from_str,
 };
+use juniper_nodes::value_nodes;
 use std::alloc::{AllocError, Global};
 use std::collections::HashMap;
 use std::fmt;
@@ -134,21 +135,21 @@ pub(crate) fn variables_of(
     Ok(variables)
 }
 
-// The display of the value that the constructors make of its parts, and what of it is as it was.
+// The display of the value that a constructor makes of its parts, and what of it is as it was.
 fn write_made_anew(alloc: Global, out: &mut String, value: &Input) -> Written {
-    let made = made_anew(alloc, value)?;
-    write!(out, "{made}")?;
-    if made.unlocated_eq(value) {
+    let made = Spanning::unlocated(made_anew(alloc, value)?);
+    let shown = &made.item;
+    write!(out, "{shown}")?;
+    if shown.unlocated_eq(value) {
         out.push_str(", the same but for places")?;
     }
-    if is_unlocated(&made) {
+    if is_unlocated(alloc, &made)? {
         out.push_str(", unlocated")?;
     }
     Ok(())
 }
 
-// The same value without places, made by constructors and conversions.
-#[cycle(made)]
+// The same value, made by a constructor or a conversion. Items and fields are copies.
 fn made_anew(alloc: Global, value: &Input) -> Result<Input, AllocError> {
     match value {
         InputValue::Null => None::<i32>.into_input_value(alloc),
@@ -168,11 +169,10 @@ fn made_scalar(alloc: Global, scalar: &DefaultScalarValue) -> Result<Input, Allo
     }
 }
 
-#[cycle(made)]
 fn made_list(alloc: Global, items: &[Spanning<Input>]) -> Result<Input, AllocError> {
     let mut made = Vec::new(alloc);
     for item in items {
-        made.push(made_anew(alloc, &item.item)?)?;
+        made.push(item.item.try_clone(alloc)?)?;
     }
     match InputValue::list(alloc, made) {
         Ok(list) => Ok(list),
@@ -180,14 +180,13 @@ fn made_list(alloc: Global, items: &[Spanning<Input>]) -> Result<Input, AllocErr
     }
 }
 
-#[cycle(made)]
 fn made_object(
     alloc: Global,
     fields: &[(Spanning<String>, Spanning<Input>)],
 ) -> Result<Input, AllocError> {
     let mut made = IndexMap::new(alloc);
     for (key, value) in fields {
-        made.insert(key.item.clone()?, made_anew(alloc, &value.item)?)?;
+        made.insert(key.item.clone()?, value.item.try_clone(alloc)?)?;
     }
     match InputValue::object(alloc, made) {
         Ok(object) => Ok(object),
@@ -195,35 +194,12 @@ fn made_object(
     }
 }
 
-/// Whether no item, key or value has a place.
-#[cycle(unlocated)]
-pub(crate) fn is_unlocated(value: &Input) -> bool {
-    match value {
-        InputValue::List(items) => are_unlocated(items),
-        InputValue::Object(fields) => fields_are_unlocated(fields),
-        _ => true,
-    }
-}
-
-#[cycle(unlocated)]
-fn are_unlocated(items: &[Spanning<Input>]) -> bool {
-    for item in items {
-        if item.span != Span::unlocated() || !is_unlocated(&item.item) {
-            return false;
+/// Whether neither a value nor any item, key or value in it has a place.
+pub(crate) fn is_unlocated(alloc: Global, value: &Spanning<Input>) -> Result<bool, AllocError> {
+    for node in &value_nodes(alloc, value)? {
+        if *node.span != Span::unlocated() {
+            return Ok(false);
         }
     }
-    true
-}
-
-#[cycle(unlocated)]
-fn fields_are_unlocated(fields: &[(Spanning<String>, Spanning<Input>)]) -> bool {
-    for (key, value) in fields {
-        if key.span != Span::unlocated() || value.span != Span::unlocated() {
-            return false;
-        }
-        if !is_unlocated(&value.item) {
-            return false;
-        }
-    }
-    true
+    Ok(true)
 }

@@ -1,6 +1,6 @@
 //! The lexer, and the table of lines.
 
-use crate::write::{Written, write_fault, write_span, write_token};
+use crate::write::{At, Written, write_fault, write_token};
 use juniper::{LexFailure, Lexer, LexerResult, LineTable, Span};
 use std::alloc::Global;
 
@@ -38,8 +38,9 @@ pub fn write_places(alloc: Global, out: &mut String, text: &str) -> Written {
         let Some(place) = table.position(index) else {
             return out.push_str("None\n");
         };
-        write_span(out, &Span::zero_width(place))?;
-        out.push('\n')?;
+        let span = Span::zero_width(place);
+        let at = At(&span);
+        writeln!(out, "{at}")?;
     }
     Ok(())
 }

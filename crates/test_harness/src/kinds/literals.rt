@@ -1,29 +1,10 @@
-//! Type literals and value literals: the lines of what is read, or the refusal, and what `peek` shows then.
+//! Value literals: the lines of what is read, or the refusal, and what `peek` shows then.
 
-use crate::kinds::tree::{write_type, write_value};
-use crate::parsing::{Input, type_in, value_in};
+use crate::kinds::tree::write_value;
+use crate::parsing::{Input, value_in};
 use crate::write::{Written, write_refusal, write_token};
-use juniper::{Lexer, ParseFailure, ParseResult, Parser, Type};
+use juniper::{Lexer, ParseFailure, ParseResult, Parser};
 use std::alloc::Global;
-
-/// `type`: what `parse_type` returns.
-pub fn write_type_in(alloc: Global, out: &mut String, text: &str) -> Written {
-    let mut lexer = Lexer::new(alloc, text);
-    match Parser::new(&mut lexer) {
-        Ok(mut parser) => {
-            write_type_read(out, type_in(&mut parser))?;
-            write_next(out, &parser)
-        }
-        Err(failure) => write_refusal(out, ParseFailure::from(failure)),
-    }
-}
-
-fn write_type_read(out: &mut String, literal: ParseResult<Type<&str>>) -> Written {
-    match literal {
-        Ok(literal) => write_type(out, &literal),
-        Err(failure) => write_refusal(out, failure),
-    }
-}
 
 /// `value` and `const`: what `parse_value_literal` returns, const or not.
 pub fn write_value_in(alloc: Global, out: &mut String, text: &str, is_const: bool) -> Written {

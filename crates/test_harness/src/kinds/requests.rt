@@ -2,7 +2,7 @@
 //! bytes at which characters begin.
 
 use crate::kinds::input_values::variables_of;
-use crate::kinds::word_of;
+use crate::kinds::{Subject, word_of, write_lines};
 use crate::parsing::{Document, document, literal};
 use crate::write::{Written, write_found, write_optional, write_refusal, write_span};
 use juniper::{DefaultScalarValue, Definition, InputValue, VariableDefinitions, Variables};
@@ -12,25 +12,22 @@ use std::alloc::{AllocError, Global};
 /// `requests`: calls on the document that the text is.
 pub fn write_calls(alloc: Global, out: &mut String, text: &str, calls: &str) -> Written {
     match document(alloc, text) {
-        Ok(document) => answer_calls(alloc, out, &document, calls),
+        Ok(mut document) => write_lines(alloc, out, &mut document, calls),
         Err(failure) => write_refusal(out, failure),
     }
 }
 
-fn answer_calls(alloc: Global, out: &mut String, document: &Document<'_>, calls: &str) -> Written {
-    for call in calls.lines() {
-        write!(out, "{call} -> ")?;
+impl Subject for Document<'_> {
+    fn answer(&mut self, alloc: Global, out: &mut String, call: &str) -> Written {
         let (word, rest) = word_of(call);
         match word {
-            "operation_named" => write_operation(out, document, rest)?,
-            "fragment" => write_fragment(alloc, out, document, rest)?,
-            "variable" => write_variable(out, document, rest)?,
-            "with_defaults" => write_with_defaults(alloc, out, document, rest)?,
-            _ => out.push_str("no such call")?,
+            "operation_named" => write_operation(out, self, rest),
+            "fragment" => write_fragment(alloc, out, self, rest),
+            "variable" => write_variable(out, self, rest),
+            "with_defaults" => write_with_defaults(alloc, out, self, rest),
+            _ => out.push_str("no such call"),
         }
-        out.push('\n')?;
     }
-    Ok(())
 }
 
 // The span of the operation of this name, or without a name of the only one.
@@ -109,31 +106,23 @@ fn resolved(
     value.into_const(alloc, &variables)
 }
 
-/// `bytes`: the byte at which each character of the text begins, and the end, by `byte_offset` and by a `ByteTable`.
-pub fn write_bytes(alloc: Global, out: &mut String, text: &str) -> Written {
+/// `bytes` and `byte_table`: the byte at which each character of the text begins, and the end, by a `ByteTable`, and of
+/// `bytes` by `byte_offset` before it.
+pub fn write_bytes(alloc: Global, out: &mut String, kind: &str, text: &str) -> Written {
     let Ok(table) = ByteTable::new(alloc, text) else {
         return out.push_str("Memory\n");
     };
     for index in 0..text.len().saturating_add(2) {
-        write_optional(out, byte_offset(text, index))?;
-        out.push(' ')?;
-        write_optional(out, table.byte_offset(index))?;
+        if kind == "bytes" {
+            write_optional(out, byte_offset(text, index))?;
+            out.push(' ')?;
+        }
+        let found = table.byte_offset(index);
+        write_optional(out, found)?;
         out.push('\n')?;
-        if byte_offset(text, index).is_none() {
+        if found.is_none() {
             return Ok(());
         }
-    }
-    Ok(())
-}
-
-/// `byte_table`: the byte at which each character of the text begins, and the end, by a `ByteTable` alone.
-pub fn write_byte_table(alloc: Global, out: &mut String, text: &str) -> Written {
-    let Ok(table) = ByteTable::new(alloc, text) else {
-        return out.push_str("Memory\n");
-    };
-    for index in 0..text.len().saturating_add(1) {
-        write_optional(out, table.byte_offset(index))?;
-        out.push('\n')?;
     }
     Ok(())
 }

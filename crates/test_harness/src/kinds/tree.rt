@@ -1,7 +1,7 @@
 //! The lines of nodes: a span, the kind or the scalar, and what names the node, with its span where that is another one.
 
-use crate::write::{Written, write_span};
-use juniper::{DefaultScalarValue, Definition, InputValue, OwnedDocument, Span, Spanning, Type};
+use crate::write::{At, Written};
+use juniper::{DefaultScalarValue, Definition, InputValue, OwnedDocument, Span, Spanning};
 use juniper_nodes::{Label, Node, document_nodes, push_definition, value_nodes};
 use std::alloc::Global;
 
@@ -55,22 +55,22 @@ fn write_nodes(out: &mut String, nodes: &[Node<'_, '_, Scalars>]) -> Written {
 }
 
 fn write_node(out: &mut String, node: &Node<'_, '_, Scalars>) -> Written {
-    write_span(out, node.span)?;
+    let at = At(node.span);
     match node.scalar {
-        Some(scalar) => write_scalar(out, scalar)?,
+        Some(scalar) => write_scalar(out, at, scalar)?,
         None => {
             let kind = node.kind.name();
-            write!(out, " {kind}")?
+            write!(out, "{at} {kind}")?
         }
     }
     write_label(out, node.span, &node.label)
 }
 
-fn write_scalar(out: &mut String, scalar: &Scalars) -> Written {
+fn write_scalar(out: &mut String, at: At<'_>, scalar: &Scalars) -> Written {
     match scalar {
-        DefaultScalarValue::Int(number) => write!(out, " int {number}"),
-        DefaultScalarValue::String(text) => write!(out, " string {text}"),
-        DefaultScalarValue::Boolean(truth) => write!(out, " boolean {truth}"),
+        DefaultScalarValue::Int(number) => write!(out, "{at} int {number}"),
+        DefaultScalarValue::String(text) => write!(out, "{at} string {text}"),
+        DefaultScalarValue::Boolean(truth) => write!(out, "{at} boolean {truth}"),
     }
 }
 
@@ -88,17 +88,10 @@ fn write_label(out: &mut String, span: &Span, label: &Label<'_, '_>) -> Written 
 }
 
 fn write_name(out: &mut String, span: &Span, name: &Spanning<&str>) -> Written {
-    if name.span != *span {
-        out.push(' ')?;
-        write_span(out, &name.span)?;
-    }
+    let at = At(&name.span);
     let text = name.item;
-    write!(out, " {text}")
-}
-
-/// Writes the line of a type literal.
-pub fn write_type(out: &mut String, literal: &Spanning<Type<&str>>) -> Written {
-    write_span(out, &literal.span)?;
-    let shown = &literal.item;
-    writeln!(out, " type {shown}")
+    if name.span == *span {
+        return write!(out, " {text}");
+    }
+    write!(out, " {at} {text}")
 }

@@ -1,5 +1,0 @@
-pub mod DefinitionNames
-pub mod Fronts
-pub mod NamesOfFields
-pub mod Trees
-pub mod EventsInTurn

@@ -1,5 +1,0 @@
-use Rattle.std.proofs.Common.{append_assoc}
-use Rattle.test_harness.proofs.guide.faults.described.Goals as goal
-
-pub returns : goal.returns
-returns c = rw (← c.line-line.ensures, ← c.column-column.ensures) (simp append_assoc c.format.ensures.ok)

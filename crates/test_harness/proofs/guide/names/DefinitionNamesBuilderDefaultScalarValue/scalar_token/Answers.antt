@@ -1,6 +1,0 @@
-use Rattle.juniper_values.specs.Default.{default_content}
-use Rattle.test_harness.proofs.DefinitionNames.{fails_reading}
-use Rattle.test_harness.proofs.guide.names.DefinitionNamesBuilderDefaultScalarValue.scalar_token.Goals as goal
-
-pub returns : goal.returns
-returns c = c.unread.ensures.gives _ (fails_reading default_content _ c.in-Err.failure c.in-Err.ensures)
