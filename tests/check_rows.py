@@ -49,6 +49,7 @@ COMPLETION = "completion of a refused text"
 SAME = "canonical text of a row"
 COUNTS = {"gqlcheck": 2127, "built": 4, "completed": 8, "canonical": 29, COMPLETION: 462, SAME: 636}
 COUNTS.update(lexer=73, line_table=1, value=34, const=1, document=44, within=14, limited=23, equal=25, large=4)
+COUNTS.update(value_source=21, const_source=3, type_source=12)
 COUNTS.update(odd_document=25, complexities=2034, bytes=2)
 
 # Of the kinds of run_calls those whose rows make calls, with the number of their rows.

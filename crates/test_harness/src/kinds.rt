@@ -18,6 +18,7 @@ mod literals;
 mod odd;
 mod requests;
 mod scalars;
+mod sources;
 mod tree;
 mod types;
 
@@ -39,6 +40,9 @@ pub fn write_answer(
         "value" => literals::write_value_in(alloc, out, text, false),
         "const" => literals::write_value_in(alloc, out, text, true),
         "document" | "within" | "limited" => documents::write_tree(alloc, out, kind, text),
+        "value_source" => sources::write_value_source(alloc, out, text, false),
+        "const_source" => sources::write_value_source(alloc, out, text, true),
+        "type_source" => sources::write_type_source(alloc, out, text),
         "equal" => documents::write_equal(alloc, out, text),
         "odd_document" => odd::write_arguments_of(alloc, out, text),
         "pushed" => documents::write_counts(alloc, out, text),
@@ -102,4 +106,9 @@ impl Subject for Anew<'_> {
 /// The first word of a call, and what stands after the space.
 pub(crate) fn word_of(call: &str) -> (&str, &str) {
     call.split_once(' ').unwrap_or((call, ""))
+}
+
+/// The number that a word is, or 0.
+pub(crate) fn number_of(word: &str) -> usize {
+    word.parse::<usize>().unwrap_or(0)
 }

@@ -1,7 +1,7 @@
 //! Documents, their equality, and arguments.
 
 use crate::kinds::tree::{write_document, write_pushed, write_value};
-use crate::kinds::{Subject, word_of, write_lines};
+use crate::kinds::{Subject, number_of, word_of, write_lines};
 use crate::parsing::{Document, Input, document, document_within, fields_of};
 use crate::write::{
     Written, write_both, write_limit, write_placed, write_refusal, write_separator,
@@ -25,14 +25,13 @@ fn parsed<'a>(alloc: Global, kind: &str, text: &'a str) -> Result<Document<'a>, 
     let (depth, rest) = word_of(text);
     let (tokens, source) = word_of(rest);
     match kind {
-        "within" => document_within(alloc, rest, number(depth), None),
-        "limited" => document_within(alloc, source, number(depth), number(tokens)),
+        "within" => document_within(alloc, rest, Some(number_of(depth)), None),
+        "limited" => {
+            let tokens = Some(number_of(tokens));
+            document_within(alloc, source, Some(number_of(depth)), tokens)
+        }
         _ => document_within(alloc, text, None, None),
     }
-}
-
-fn number(word: &str) -> Option<usize> {
-    Some(word.parse::<usize>().unwrap_or(0))
 }
 
 /// `pushed`: how many nodes there are after each definition of the document was appended by `push_definition`.
@@ -66,7 +65,18 @@ type Given<'a> = Arguments<'a, DefaultScalarValue>;
 /// `arguments`: calls on the arguments that are written as the fields of an object.
 pub fn write_calls(alloc: Global, out: &mut String, text: &str, calls: &str) -> Written {
     match fields_of(alloc, text)? {
-        Some(fields) => write_lines(alloc, out, &mut given_of(alloc, &fields)?, calls),
+        Some(fields) => {
+            let given = given_of(alloc, &fields)?;
+            write_lines(
+                alloc,
+                out,
+                &mut ObjectArguments {
+                    given,
+                    fields: &fields,
+                },
+                calls,
+            )
+        }
         None => out.push_str("no object\n"),
     }
 }
@@ -83,22 +93,29 @@ fn given_of(
     Ok(Arguments { items })
 }
 
-impl Subject for Given<'_> {
+// Arguments, and the fields of the object that they are written as.
+#[derive(Drop)]
+struct ObjectArguments<'a> {
+    given: Given<'a>,
+    fields: &'a [(Spanning<String>, Spanning<Input>)],
+}
+
+impl Subject for ObjectArguments<'_> {
     fn answer(&mut self, alloc: Global, out: &mut String, call: &str) -> Written {
         let (word, name) = word_of(call);
         match word {
             "len" => {
-                let len = self.len();
+                let len = self.given.len();
                 write!(out, "{len}")
             }
-            "iter" => write_names(out, self),
-            "get" => match self.get(name) {
+            "iter" => write_names(out, &self.given),
+            "get" => match self.given.get(name) {
                 Some(value) => write_line_of(alloc, out, value),
                 None => out.push_str("None"),
             },
-            "get_mut" => write_cleared(out, self.get_mut(name)),
-            "unlocated_eq" => write_compared(alloc, out, self, name),
-            "variable_uses" => write_uses(alloc, out, self, name),
+            "get_mut" => write_cleared(out, self.given.get_mut(name)),
+            "unlocated_eq" => write_compared(alloc, out, self.fields, name),
+            "variable_uses" => write_uses(alloc, out, &self.given, name),
             _ => out.push_str("no such call"),
         }
     }
@@ -116,12 +133,27 @@ fn write_cleared(out: &mut String, value: Option<&mut Spanning<Input>>) -> Writt
 }
 
 // Whether other arguments, the fields of this object, are equal regardless of places, both ways.
-fn write_compared(alloc: Global, out: &mut String, given: &Given<'_>, other: &str) -> Written {
-    let Some(fields) = fields_of(alloc, other)? else {
+fn write_compared(
+    alloc: Global,
+    out: &mut String,
+    fields: &[(Spanning<String>, Spanning<Input>)],
+    other: &str,
+) -> Written {
+    let Some(others) = fields_of(alloc, other)? else {
         return out.push_str("no object");
     };
-    let other = given_of(alloc, &fields)?;
-    write_both(out, given.unlocated_eq(&other), other.unlocated_eq(given))
+    write_compared_fields(alloc, out, fields, &others)
+}
+
+fn write_compared_fields<'a>(
+    alloc: Global,
+    out: &mut String,
+    fields: &'a [(Spanning<String>, Spanning<Input>)],
+    others: &'a [(Spanning<String>, Spanning<Input>)],
+) -> Written {
+    let given = given_of(alloc, fields)?;
+    let other = given_of(alloc, others)?;
+    write_both(out, given.unlocated_eq(&other), other.unlocated_eq(&given))
 }
 
 // The variables in the value of the argument of this name, each with the span of its use.

@@ -1,0 +1,45 @@
+//! Sources that are one value or one type: the lines of it, or why there is none. The text's first two words are the limits on
+//! nesting and on tokens.
+
+use crate::kinds::tree::write_value;
+use crate::kinds::{number_of, word_of};
+use crate::write::{At, Written, write_limit};
+use juniper::{DefaultScalarValue, LimitFailure, Limits, parse_type_source, parse_value_source};
+use std::alloc::Global;
+
+/// `value_source` and `const_source`: what `parse_value_source` returns, const or not.
+pub fn write_value_source(alloc: Global, out: &mut String, text: &str, is_const: bool) -> Written {
+    let (limits, source) = limits_of(text);
+    match parse_value_source::<DefaultScalarValue>(alloc, source, is_const, limits) {
+        Ok(value) => write_value(alloc, out, &value),
+        Err(failure) => write_line(out, failure),
+    }
+}
+
+/// `type_source`: what `parse_type_source` returns.
+pub fn write_type_source(alloc: Global, out: &mut String, text: &str) -> Written {
+    let (limits, source) = limits_of(text);
+    match parse_type_source(alloc, source, limits) {
+        Ok(literal) => {
+            let at = At(&literal.span);
+            let of_type = &literal.item;
+            writeln!(out, "{at} type {of_type}")
+        }
+        Err(failure) => write_line(out, failure),
+    }
+}
+
+fn limits_of(text: &str) -> (Limits, &str) {
+    let (depth, rest) = word_of(text);
+    let (tokens, source) = word_of(rest);
+    let limits = Limits {
+        depth: number_of(depth),
+        tokens: number_of(tokens),
+    };
+    (limits, source)
+}
+
+fn write_line(out: &mut String, failure: LimitFailure) -> Written {
+    write_limit(out, failure)?;
+    out.push('\n')
+}
