@@ -169,6 +169,10 @@ CALLS = [(("input_value", call), name, text, most) for call, name, text, most in
     (("cursor", "unlocated_delimited_nonempty_list [ ]"), "names", LISTS("a "), LINEAR),
     (("cursor", "parse_value_literal"), "a list", LISTS("1 "), LINEAR),
     (("cursor", "parse_value_literal"), "an object", OBJECT("k№: 1 "), LINEAR),
+    (("value_source",), "a list", repeated("9 9999999 [", "1 ", "]"), LINEAR),
+    (("value_source",), "an object", repeated("9 9999999 {", "k№: 1 ", "}"), LINEAR),
+    (("value_source",), "tokens after a value", repeated("9 9999999 1 ", "1 "), LINEAR),
+    (("type_source",), "a long name", repeated("9 9999999 ", "a"), LINEAR),
     (("line_table",), "line feeds", WORDS("a\n"), LINEAR),
     (("line_table",), "text past ASCII", WORDS("é\n"), LINEAR),
     # The byte of each character: by `byte_offset`, which is linear, and by a `ByteTable`, whose look-up is linear in the line.
