@@ -4,12 +4,16 @@
 use crate::kinds::tree::write_value;
 use crate::kinds::{number_of, word_of};
 use crate::write::{At, Written, write_limit};
-use juniper::{DefaultScalarValue, LimitFailure, Limits, parse_type_source, parse_value_source};
+use juniper::{
+    DefaultScalarValue, LimitFailure, Limits, Spanning, Type, parse_type_source, parse_value_source,
+};
 use std::alloc::Global;
 
 /// `value_source` and `const_source`: what `parse_value_source` returns, const or not.
 pub fn write_value_source(alloc: Global, out: &mut String, text: &str, is_const: bool) -> Written {
-    let (limits, source) = limits_of(text);
+    let (depth, rest) = word_of(text);
+    let (tokens, source) = word_of(rest);
+    let limits = limits_of(depth, tokens);
     match parse_value_source::<DefaultScalarValue>(alloc, source, is_const, limits) {
         Ok(value) => write_value(alloc, out, &value),
         Err(failure) => write_line(out, failure),
@@ -18,8 +22,20 @@ pub fn write_value_source(alloc: Global, out: &mut String, text: &str, is_const:
 
 /// `type_source`: what `parse_type_source` returns.
 pub fn write_type_source(alloc: Global, out: &mut String, text: &str) -> Written {
-    let (limits, source) = limits_of(text);
-    match parse_type_source(alloc, source, limits) {
+    write_type_read(out, type_in(alloc, text))
+}
+
+fn type_in<'a>(alloc: Global, text: &'a str) -> Result<Spanning<Type<&'a str>>, LimitFailure> {
+    let (depth, rest) = word_of(text);
+    let (tokens, source) = word_of(rest);
+    parse_type_source(alloc, source, limits_of(depth, tokens))
+}
+
+fn write_type_read(
+    out: &mut String,
+    literal: Result<Spanning<Type<&str>>, LimitFailure>,
+) -> Written {
+    match literal {
         Ok(literal) => {
             let at = At(&literal.span);
             let of_type = &literal.item;
@@ -29,14 +45,11 @@ pub fn write_type_source(alloc: Global, out: &mut String, text: &str) -> Written
     }
 }
 
-fn limits_of(text: &str) -> (Limits, &str) {
-    let (depth, rest) = word_of(text);
-    let (tokens, source) = word_of(rest);
-    let limits = Limits {
+fn limits_of(depth: &str, tokens: &str) -> Limits {
+    Limits {
         depth: number_of(depth),
         tokens: number_of(tokens),
-    };
-    (limits, source)
+    }
 }
 
 fn write_line(out: &mut String, failure: LimitFailure) -> Written {
