@@ -3,7 +3,7 @@
 
 use crate::kinds::tree::write_value;
 use crate::kinds::{number_of, word_of};
-use crate::write::{At, Written, write_limit};
+use crate::write::{Written, write_limit, write_span};
 use juniper::{
     DefaultScalarValue, LimitFailure, Limits, Spanning, Type, parse_type_source, parse_value_source,
 };
@@ -36,13 +36,15 @@ fn write_type_read(
     literal: Result<Spanning<Type<&str>>, LimitFailure>,
 ) -> Written {
     match literal {
-        Ok(literal) => {
-            let at = At(&literal.span);
-            let of_type = &literal.item;
-            writeln!(out, "{at} type {of_type}")
-        }
+        Ok(literal) => write_type(out, &literal),
         Err(failure) => write_line(out, failure),
     }
+}
+
+fn write_type(out: &mut String, literal: &Spanning<Type<&str>>) -> Written {
+    write_span(out, &literal.span)?;
+    let shown = &literal.item;
+    writeln!(out, " type {shown}")
 }
 
 fn limits_of(depth: &str, tokens: &str) -> Limits {
