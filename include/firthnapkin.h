@@ -184,7 +184,7 @@ enum firthnapkin_error_kind {
     FIRTHNAPKIN_ERROR_UNEXPECTED_END = 1,   /* the source ends within a document */
     FIRTHNAPKIN_ERROR_LEXICAL = 2,          /* there is no token here: the detail says why */
     FIRTHNAPKIN_ERROR_TOO_DEEP = 3,         /* the token is nested too deep */
-    FIRTHNAPKIN_ERROR_TOO_MANY_TOKENS = 4,  /* the token is one too many */
+    FIRTHNAPKIN_ERROR_TOO_MANY_TOKENS = 4,  /* the token is the first past the limit */
     FIRTHNAPKIN_ERROR_INVALID_SCALAR = 5,   /* never reported, since every token of a literal is read */
     FIRTHNAPKIN_ERROR_UNKNOWN_FRAGMENT = 6, /* the spread names no fragment of the document */
     FIRTHNAPKIN_ERROR_FRAGMENT_CYCLE = 7    /* the spread is within the fragment that it names, itself or through others */

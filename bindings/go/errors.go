@@ -35,7 +35,7 @@ const (
 	UnexpectedEnd   ErrorKind = C.FIRTHNAPKIN_ERROR_UNEXPECTED_END   // the source ends within a document
 	Lexical         ErrorKind = C.FIRTHNAPKIN_ERROR_LEXICAL          // there is no token here: the detail says why
 	TooDeep         ErrorKind = C.FIRTHNAPKIN_ERROR_TOO_DEEP         // the token is nested too deep
-	TooManyTokens   ErrorKind = C.FIRTHNAPKIN_ERROR_TOO_MANY_TOKENS  // the token is one too many
+	TooManyTokens   ErrorKind = C.FIRTHNAPKIN_ERROR_TOO_MANY_TOKENS  // the token is the first past the limit
 	UnknownFragment ErrorKind = C.FIRTHNAPKIN_ERROR_UNKNOWN_FRAGMENT // the spread names no fragment of the document
 	FragmentCycle   ErrorKind = C.FIRTHNAPKIN_ERROR_FRAGMENT_CYCLE   // the spread is within the fragment that it names, itself or through others
 	// tables.toml: end

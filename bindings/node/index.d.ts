@@ -293,7 +293,7 @@ export type ErrorKind =
   | "lexical"
   /** The token is nested too deep. */
   | "tooDeep"
-  /** The token is one too many. */
+  /** The token is the first past the limit. */
   | "tooManyTokens"
   /** The spread names no fragment of the document. */
   | "unknownFragment"

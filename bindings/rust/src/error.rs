@@ -90,7 +90,7 @@ pub enum ErrorKind {
     Lexical,
     /// The token is nested too deep.
     TooDeep,
-    /// The token is one too many.
+    /// The token is the first past the limit.
     TooManyTokens,
     /// The spread names no fragment of the document.
     UnknownFragment,

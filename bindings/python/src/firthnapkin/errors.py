@@ -24,7 +24,7 @@ class ErrorKind(enum.Enum):
     LEXICAL = 2
     #: The token is nested too deep.
     TOO_DEEP = 3
-    #: The token is one too many.
+    #: The token is the first past the limit.
     TOO_MANY_TOKENS = 4
     #: Never reported, since every token of a literal is read.
     INVALID_SCALAR = 5
