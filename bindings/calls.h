@@ -95,7 +95,7 @@ typedef struct {
     size_t length;
     const firthnapkin_limits *limits;
     const firthnapkin_error *given;
-    uint32_t max_tokens, status;
+    uint32_t max_tokens, constant, status;
     firthnapkin_node *nodes;
     size_t nodes_capacity, *nodes_length;
     firthnapkin_token *tokens;
@@ -120,6 +120,18 @@ static inline void run_parse_complexities(void *call) {
                                                c->complexities_capacity, c->complexities_length, c->error);
 }
 
+static inline void run_parse_value(void *call) {
+    whole_call *c = call;
+    c->status = firthnapkin_parse_value(c->source, c->length, c->constant, c->limits, c->nodes, c->nodes_capacity,
+                                        c->nodes_length, c->texts, c->texts_capacity, c->texts_length, c->error);
+}
+
+static inline void run_parse_type(void *call) {
+    whole_call *c = call;
+    c->status = firthnapkin_parse_type(c->source, c->length, c->limits, c->nodes, c->nodes_capacity, c->nodes_length, c->texts,
+                                       c->texts_capacity, c->texts_length, c->error);
+}
+
 static inline void run_message(void *call) {
     whole_call *c = call;
     c->status = firthnapkin_message(c->source, c->length, c->given, c->texts, c->texts_capacity, c->texts_length);
@@ -140,16 +152,43 @@ static inline void run_canonical(void *call) {
     c->status = firthnapkin_canonical(c->source, c->length, c->texts, c->texts_capacity, c->texts_length, c->error);
 }
 
-/* firthnapkin_parse; FIRTHNAPKIN_OUT_OF_MEMORY if no stack can be made. */
+/* A call that writes nodes; FIRTHNAPKIN_OUT_OF_MEMORY if no stack can be made. */
+static inline uint32_t nodes_on_stack(void (*run)(void *), const uint8_t *source, size_t length, uint32_t constant,
+                                      const firthnapkin_limits *limits, firthnapkin_node *nodes, size_t nodes_capacity,
+                                      size_t *nodes_length, uint8_t *texts, size_t texts_capacity, size_t *texts_length,
+                                      firthnapkin_error *error) {
+    whole_call call = {.source = source, .length = length, .limits = limits, .constant = constant,
+                       .status = FIRTHNAPKIN_OUT_OF_MEMORY, .nodes = nodes, .nodes_capacity = nodes_capacity,
+                       .nodes_length = nodes_length, .texts = texts, .texts_capacity = texts_capacity,
+                       .texts_length = texts_length, .error = error};
+    *nodes_length = *texts_length = 0;
+    run_on_stack(stack_for(limits->depth), run, &call);
+    return call.status;
+}
+
+/* firthnapkin_parse, in the same way. */
 static inline uint32_t parse_on_stack(const uint8_t *source, size_t length, const firthnapkin_limits *limits,
                                       firthnapkin_node *nodes, size_t nodes_capacity, size_t *nodes_length, uint8_t *texts,
                                       size_t texts_capacity, size_t *texts_length, firthnapkin_error *error) {
-    whole_call call = {.source = source, .length = length, .limits = limits, .status = FIRTHNAPKIN_OUT_OF_MEMORY, .nodes = nodes,
-                       .nodes_capacity = nodes_capacity, .nodes_length = nodes_length, .texts = texts,
-                       .texts_capacity = texts_capacity, .texts_length = texts_length, .error = error};
-    *nodes_length = *texts_length = 0;
-    run_on_stack(stack_for(limits->depth), run_parse, &call);
-    return call.status;
+    return nodes_on_stack(run_parse, source, length, 0, limits, nodes, nodes_capacity, nodes_length, texts, texts_capacity,
+                          texts_length, error);
+}
+
+/* firthnapkin_parse_value, in the same way. */
+static inline uint32_t parse_value_on_stack(const uint8_t *source, size_t length, uint32_t constant,
+                                            const firthnapkin_limits *limits, firthnapkin_node *nodes, size_t nodes_capacity,
+                                            size_t *nodes_length, uint8_t *texts, size_t texts_capacity, size_t *texts_length,
+                                            firthnapkin_error *error) {
+    return nodes_on_stack(run_parse_value, source, length, constant, limits, nodes, nodes_capacity, nodes_length, texts,
+                          texts_capacity, texts_length, error);
+}
+
+/* firthnapkin_parse_type, in the same way. */
+static inline uint32_t parse_type_on_stack(const uint8_t *source, size_t length, const firthnapkin_limits *limits,
+                                           firthnapkin_node *nodes, size_t nodes_capacity, size_t *nodes_length, uint8_t *texts,
+                                           size_t texts_capacity, size_t *texts_length, firthnapkin_error *error) {
+    return nodes_on_stack(run_parse_type, source, length, 0, limits, nodes, nodes_capacity, nodes_length, texts, texts_capacity,
+                          texts_length, error);
 }
 
 /* firthnapkin_parse_complexities, in the same way. */

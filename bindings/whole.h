@@ -81,10 +81,31 @@ static inline size_t at_first(size_t length) {
     return length / 4 < MOST_AT_FIRST ? length / 4 : MOST_AT_FIRST;
 }
 
-/* Parses a source within limits. The result has to be freed, whatever the status. Few texts have more nodes than one for four
- * bytes. For those, and for the largest, the second try has the size that the first returned. Memory that is not written to
+/* What a source is parsed as. A constant is a value without variables. */
+typedef enum { AS_DOCUMENT, AS_VALUE, AS_CONSTANT, AS_TYPE } parsed_as;
+
+/* The call of the library that parses a source as this. */
+static inline uint32_t parse_as_on_stack(parsed_as as, const uint8_t *source, size_t length, const firthnapkin_limits *limits,
+                                         firthnapkin_node *nodes, size_t nodes_capacity, size_t *nodes_length, uint8_t *texts,
+                                         size_t texts_capacity, size_t *texts_length, firthnapkin_error *error) {
+    switch (as) {
+    case AS_VALUE:
+    case AS_CONSTANT:
+        return parse_value_on_stack(source, length, as == AS_CONSTANT, limits, nodes, nodes_capacity, nodes_length, texts,
+                                    texts_capacity, texts_length, error);
+    case AS_TYPE:
+        return parse_type_on_stack(source, length, limits, nodes, nodes_capacity, nodes_length, texts, texts_capacity,
+                                   texts_length, error);
+    default:
+        return parse_on_stack(source, length, limits, nodes, nodes_capacity, nodes_length, texts, texts_capacity, texts_length,
+                              error);
+    }
+}
+
+/* Parses a source as this within limits. The result has to be freed, whatever the status. Few texts have more nodes than one for
+ * four bytes. For those, and for the largest, the second try has the size that the first returned. Memory that is not written to
  * costs nothing. */
-static inline whole parse_whole(const uint8_t *source, size_t length, const firthnapkin_limits *limits) {
+static inline whole whole_as(parsed_as as, const uint8_t *source, size_t length, const firthnapkin_limits *limits) {
     whole w = {.status = FIRTHNAPKIN_OUT_OF_MEMORY};
     size_t nodes = at_first(length) + 16, texts = at_first(length) + 64;
     do {
@@ -92,13 +113,18 @@ static inline whole parse_whole(const uint8_t *source, size_t length, const firt
             w.status = FIRTHNAPKIN_OUT_OF_MEMORY;
             return w;
         }
-        w.status = parse_on_stack(source, length, limits, w.nodes, nodes, &w.nodes_count, w.texts, texts, &w.texts_count,
-                                  &w.error);
+        w.status = parse_as_on_stack(as, source, length, limits, w.nodes, nodes, &w.nodes_count, w.texts, texts, &w.texts_count,
+                                     &w.error);
         nodes = w.nodes_count;
         texts = w.texts_count;
     } while (w.status == FIRTHNAPKIN_BUFFER_TOO_SMALL);
     add_words(&w, source, length);
     return w;
+}
+
+/* The same of a document. */
+static inline whole parse_whole(const uint8_t *source, size_t length, const firthnapkin_limits *limits) {
+    return whole_as(AS_DOCUMENT, source, length, limits);
 }
 
 /* Makes the status and the error those of the first operation that exceeds a limit, if one does, and puts its words into the

@@ -268,17 +268,17 @@ static inline const char *firthnapkin_error_detail_name(uint32_t detail) {
  *
  * FIRTHNAPKIN_OK: the source is a document. Its nodes are at the beginning of `nodes`, and their texts, one after the other,
  * at the beginning of `texts`; the rest of both is as it was. FIRTHNAPKIN_BUFFER_TOO_SMALL: it is a document, and one of the
- * two is too small; both begin with as many as fit. Both statuses set the lengths to the number of nodes and of bytes of
- * texts; all others set both lengths to 0. Nodes are written while the source is parsed, so after any other status the
- * buffers hold unspecified values, but for FIRTHNAPKIN_NOT_UTF8, FIRTHNAPKIN_SOURCE_TOO_LONG and FIRTHNAPKIN_INVALID_LIMIT,
- * which leave them as they were. Buffers of `length` nodes and `length` bytes always suffice.
+ * two is too small; both begin with what fits. Both statuses set the lengths to the number of nodes and of bytes of texts. All
+ * others set both lengths to 0. FIRTHNAPKIN_NOT_UTF8, FIRTHNAPKIN_SOURCE_TOO_LONG and FIRTHNAPKIN_INVALID_LIMIT leave both
+ * buffers as they were. After any other status they hold unspecified values, since nodes are written while the source is
+ * parsed. Buffers of `length` nodes and `length` bytes always suffice.
  *
  * FIRTHNAPKIN_SYNTAX_ERROR: the source is UTF-8, and isn't a document. The error is its first lexical error, wherever that is;
  * without one it is at the first token that no document could have there. FIRTHNAPKIN_TOO_DEEP: the source has no lexical
  * error, not even after the token that is nested too deep. That token is the error, and those up to it begin a document.
  * FIRTHNAPKIN_TOO_MANY_TOKENS: the source has more tokens than limits->tokens, before its end or its first lexical error. The
- * first one too many is the error, whether those before it begin a document or not. These three statuses write the error, the
- * others leave it as it was.
+ * first token past the limit is the error, whether those before it begin a document or not. These three statuses write the
+ * error. The others leave it as it was.
  *
  * It also returns FIRTHNAPKIN_NOT_UTF8, FIRTHNAPKIN_OUT_OF_MEMORY, FIRTHNAPKIN_SOURCE_TOO_LONG and FIRTHNAPKIN_INVALID_LIMIT.
  * It holds no list of tokens, no tree and no text.
@@ -295,14 +295,16 @@ uint32_t firthnapkin_parse(const uint8_t *source, size_t length, const firthnapk
  *
  * FIRTHNAPKIN_OK: as there, and the operations' numbers are at the beginning of `complexities`, in the order of the source;
  * the rest of it is as it was. FIRTHNAPKIN_BUFFER_TOO_SMALL: as there, and it may be this array that is too small. Both set
- * `complexities_length` to the number of operations, at most `length`. All others set it to 0, and leave the array as it was.
+ * `complexities_length` to the number of operations. All others set it to 0, and leave the array as it was. An array of
+ * `length` complexities always suffices.
  *
  * FIRTHNAPKIN_UNKNOWN_FRAGMENT and FIRTHNAPKIN_FRAGMENT_CYCLE: the source is a document, and an operation can't be expanded.
  * The error is at the first spread that can't be, from its dots to its end, for a reader who begins with the first operation
  * and goes through each spread's fragment before what is after the spread. What no operation reaches isn't looked at. The nodes
- * and texts are in the buffers as far as they fit, and their lengths are set, as with FIRTHNAPKIN_BUFFER_TOO_SMALL.
+ * and texts are in the buffers as far as they fit, and their lengths are set to the number of all.
  *
- * It also returns the other statuses of firthnapkin_parse, and then does as that.
+ * It also returns the other statuses of firthnapkin_parse. After these the nodes, the texts, their lengths and the error are
+ * as after that call.
  *
  * With capacities of 0 for nodes and texts the call checks a source: FIRTHNAPKIN_BUFFER_TOO_SMALL then says that the source is a
  * document within the limits and that each operation can be expanded. If `complexities_length` is at most the capacity, the array
@@ -313,14 +315,45 @@ uint32_t firthnapkin_parse_complexities(const uint8_t *source, size_t length, co
                                         size_t texts_capacity, size_t *texts_length, firthnapkin_complexity *complexities,
                                         size_t complexities_capacity, size_t *complexities_length, firthnapkin_error *error);
 
-/* Writes an error in words, as `Unexpected "}"`, in UTF-8, with no byte 0 at its end. The source is the one that another call
- * found the error in; it isn't parsed again. Neither the position nor the line is in the words: an excerpt shows these.
+/* Parses a source that is one value, and no more, within limits (GraphQL specification, October 2021, section 2.9). If
+ * `constant` isn't 0, the value is constant: it has no variables.
  *
- * FIRTHNAPKIN_OK: the words are at the beginning of `buffer`, the rest of which is as it was, and `buffer_length` is the number
- * of their bytes. FIRTHNAPKIN_BUFFER_TOO_SMALL: they have `buffer_length` bytes, more than `buffer_capacity`.
+ * Its statuses are those of firthnapkin_parse. FIRTHNAPKIN_OK: the source is a value. Its nodes are at the beginning of
+ * `nodes`, the first of them its own, and their texts at the beginning of `texts`; the rest of both is as it was.
+ * FIRTHNAPKIN_BUFFER_TOO_SMALL: it is a value, and one of the two is too small; both begin with what fits. Both statuses set
+ * the lengths to the number of nodes and of bytes of texts. Buffers of `length` nodes and `length` bytes always suffice.
+ *
+ * FIRTHNAPKIN_SYNTAX_ERROR, FIRTHNAPKIN_TOO_DEEP and FIRTHNAPKIN_TOO_MANY_TOKENS mean what they do there, with 'value' for
+ * 'document', and so does the error. After all statuses but the first two the buffers, the lengths and the error are as after
+ * that call. */
+uint32_t firthnapkin_parse_value(const uint8_t *source, size_t length, uint32_t constant, const firthnapkin_limits *limits,
+                                 firthnapkin_node *nodes, size_t nodes_capacity, size_t *nodes_length, uint8_t *texts,
+                                 size_t texts_capacity, size_t *texts_length, firthnapkin_error *error);
+
+/* Parses a source that is one type, as `[ID!]!`, and no more, within limits (section 2.11).
+ *
+ * Its statuses are those of firthnapkin_parse. FIRTHNAPKIN_OK: the source is a type. Its one node, of the kind
+ * FIRTHNAPKIN_TYPE, is at the beginning of `nodes`, and the type without spaces at the beginning of `texts`; the rest of both
+ * is as it was. FIRTHNAPKIN_BUFFER_TOO_SMALL: it is a type, and one of the two is too small; both begin with what fits. Both
+ * statuses set the lengths to the number of nodes and of bytes of texts. Buffers of `length` nodes and `length` bytes always
+ * suffice.
+ *
+ * FIRTHNAPKIN_SYNTAX_ERROR, FIRTHNAPKIN_TOO_DEEP and FIRTHNAPKIN_TOO_MANY_TOKENS mean what they do there, with 'type' for
+ * 'document', and so does the error. After all statuses but the first two the buffers, the lengths and the error are as after
+ * that call. */
+uint32_t firthnapkin_parse_type(const uint8_t *source, size_t length, const firthnapkin_limits *limits, firthnapkin_node *nodes,
+                                size_t nodes_capacity, size_t *nodes_length, uint8_t *texts, size_t texts_capacity,
+                                size_t *texts_length, firthnapkin_error *error);
+
+/* Writes an error in words, as `Unexpected "}"`, in UTF-8, with no byte 0 at its end. The source is the one that another call
+ * found the error in. It isn't parsed again. Neither the position nor the line is in the words: an excerpt shows these.
+ *
+ * FIRTHNAPKIN_OK: the words are at the beginning of `buffer`, the rest of which is as it was, and `buffer_length` is the
+ * number of their bytes. FIRTHNAPKIN_BUFFER_TOO_SMALL: they have `buffer_length` bytes, more than `buffer_capacity`.
  * FIRTHNAPKIN_INVALID_ERROR: there are no words for this error in this source. Any other error has some, even if it is of
- * another source. It also returns FIRTHNAPKIN_NOT_UTF8, FIRTHNAPKIN_OUT_OF_MEMORY and FIRTHNAPKIN_SOURCE_TOO_LONG. All statuses
- * but FIRTHNAPKIN_OK leave `buffer` as it was, and all but the first two set `buffer_length` to 0. */
+ * another source. It also returns FIRTHNAPKIN_NOT_UTF8, FIRTHNAPKIN_OUT_OF_MEMORY and FIRTHNAPKIN_SOURCE_TOO_LONG. All
+ * statuses but FIRTHNAPKIN_OK leave `buffer` as it was. All but FIRTHNAPKIN_OK and FIRTHNAPKIN_BUFFER_TOO_SMALL set
+ * `buffer_length` to 0. */
 uint32_t firthnapkin_message(const uint8_t *source, size_t length, const firthnapkin_error *error, uint8_t *buffer,
                              size_t buffer_capacity, size_t *buffer_length);
 
@@ -337,47 +370,49 @@ uint32_t firthnapkin_message(const uint8_t *source, size_t length, const firthna
  * its bar if nothing of its line is shown. Only error->start.byte is read of the error: the line and the column are those of
  * that byte of the source.
  *
- * Its statuses are those of firthnapkin_message. FIRTHNAPKIN_INVALID_ERROR: that byte is within a character of the source, or
- * after its end. */
+ * Its statuses are those of firthnapkin_message. After each of them `buffer` and `buffer_length` are as after that call, with
+ * the lines in place of the words. FIRTHNAPKIN_INVALID_ERROR: that byte is within a character of the source, or after its end. */
 uint32_t firthnapkin_excerpt(const uint8_t *source, size_t length, const firthnapkin_error *error, uint8_t *buffer,
                              size_t buffer_capacity, size_t *buffer_length);
 
-/* Says whether a source has more tokens than `max_tokens`, its end not counted. The whole source is checked as UTF-8, then
- * cut into tokens up to the first one too many. Memory is taken for the positions of the error alone, if the source isn't ASCII.
- * firthnapkin_parse takes the same limit; this call is for programs that parse elsewhere.
+/* Says whether a source has more tokens than `max_tokens`, its end not counted. The whole source is checked as UTF-8. It is
+ * tokenized up to the first token past the limit. Memory is taken for the positions of the error alone, if the source isn't
+ * ASCII. The limit is that of firthnapkin_parse; this call is for programs that parse elsewhere.
  *
  * FIRTHNAPKIN_OK: there are no more before the end, or before the first lexical error. FIRTHNAPKIN_TOO_MANY_TOKENS: there are
- * more before either, and the error is at the first one too many; what is after it is UTF-8, and may have lexical errors.
- * FIRTHNAPKIN_OUT_OF_MEMORY: there are more, and there was no memory for the error's positions. It also returns
- * FIRTHNAPKIN_NOT_UTF8 and FIRTHNAPKIN_SOURCE_TOO_LONG. All statuses but FIRTHNAPKIN_TOO_MANY_TOKENS leave the error as it was. */
+ * more before either, and the error is at the first token past the limit; what is after it is UTF-8, and may have lexical
+ * errors. FIRTHNAPKIN_OUT_OF_MEMORY: there are more, and there was no memory for the error's positions. It also returns
+ * FIRTHNAPKIN_NOT_UTF8 and FIRTHNAPKIN_SOURCE_TOO_LONG. All statuses but FIRTHNAPKIN_TOO_MANY_TOKENS leave the error as it
+ * was. */
 uint32_t firthnapkin_count(const uint8_t *source, size_t length, uint32_t max_tokens, firthnapkin_error *error);
 
-/* Cuts a source into tokens, the last of which is its end. It may have no more than `max_tokens` tokens, its end not counted;
- * UINT32_MAX is no limit. The source may be a document or not.
+/* Tokenizes a source. Its last token is its end. It may have no more than `max_tokens` tokens, its end not counted. UINT32_MAX
+ * is no limit. The source may be a document or not.
  *
- * `tokens_length` is the number of tokens that are found, and `tokens` begins with these, as many as fit; the rest of it is as
- * it was. FIRTHNAPKIN_OK: they are all tokens of the source, its end among them. FIRTHNAPKIN_BUFFER_TOO_SMALL: the same, and
- * `tokens` is too short for all. FIRTHNAPKIN_SYNTAX_ERROR: they are those before the first lexical error, which is the error,
- * of the kind FIRTHNAPKIN_ERROR_LEXICAL. FIRTHNAPKIN_TOO_MANY_TOKENS: they are the first `max_tokens`, and the error is at
- * the one after these; what is after it is UTF-8, and may have lexical errors.
+ * `tokens_length` is the number of tokens that are found, and `tokens` begins with those of them that fit; the rest of it is
+ * as it was. FIRTHNAPKIN_OK: they are all tokens of the source, its end among them. FIRTHNAPKIN_BUFFER_TOO_SMALL: the same,
+ * and `tokens` is too short for all. FIRTHNAPKIN_SYNTAX_ERROR: they are those before the first lexical error, which is the
+ * error, of the kind FIRTHNAPKIN_ERROR_LEXICAL. FIRTHNAPKIN_TOO_MANY_TOKENS: they are the first `max_tokens`, and the error is
+ * at the one after these; what is after it is UTF-8, and may have lexical errors.
  *
- * It also returns FIRTHNAPKIN_NOT_UTF8 and FIRTHNAPKIN_SOURCE_TOO_LONG, which leave `tokens` as it was, and
- * FIRTHNAPKIN_OUT_OF_MEMORY, after which it may begin with some of the source's first tokens, and `tokens_length` is 0. All
- * statuses but FIRTHNAPKIN_SYNTAX_ERROR and FIRTHNAPKIN_TOO_MANY_TOKENS leave the error as it was. An array of
- * length + 1 tokens always suffices. */
+ * It also returns FIRTHNAPKIN_NOT_UTF8, FIRTHNAPKIN_SOURCE_TOO_LONG and FIRTHNAPKIN_OUT_OF_MEMORY. These three set
+ * `tokens_length` to 0. FIRTHNAPKIN_NOT_UTF8 and FIRTHNAPKIN_SOURCE_TOO_LONG leave `tokens` as it was. After
+ * FIRTHNAPKIN_OUT_OF_MEMORY it may begin with some of the source's first tokens. All statuses but FIRTHNAPKIN_SYNTAX_ERROR and
+ * FIRTHNAPKIN_TOO_MANY_TOKENS leave the error as it was. An array of length + 1 tokens always suffices. */
 uint32_t firthnapkin_tokens(const uint8_t *source, size_t length, uint32_t max_tokens, firthnapkin_token *tokens,
                             size_t tokens_capacity, size_t *tokens_length, firthnapkin_error *error);
 
-/* Writes the canonical text of a source, one for each query whatever its white space and comments: its tokens as they are
- * written, with one space between two neighbours of which neither is a punctuator, and before `...` after a token that is no
- * punctuator. It is UTF-8, with no line feed and no byte 0 at its end. Whether the source is a document is not checked.
+/* Writes the canonical text of a source, which is the same whatever white space and comments are around its tokens. It has
+ * the tokens as they are written, with one space between two neighbours of which neither is a punctuator, and before `...`
+ * after a token that is no punctuator. It is UTF-8, with no line feed and no byte 0 at its end. Whether the source is a
+ * document is not checked.
  *
  * FIRTHNAPKIN_OK: the text is at the beginning of `buffer`, the rest of which is as it was, and `buffer_length` is the number
  * of its bytes. FIRTHNAPKIN_BUFFER_TOO_SMALL: it has `buffer_length` bytes, more than `buffer_capacity`. With any other status
- * there is none, and `buffer_length` is 0. FIRTHNAPKIN_SYNTAX_ERROR: the source can't be cut into tokens, and the error is its
- * first lexical error, of the kind FIRTHNAPKIN_ERROR_LEXICAL. It also returns FIRTHNAPKIN_NOT_UTF8, FIRTHNAPKIN_OUT_OF_MEMORY
- * and FIRTHNAPKIN_SOURCE_TOO_LONG. All statuses but FIRTHNAPKIN_OK leave `buffer` as it was, and all but
- * FIRTHNAPKIN_SYNTAX_ERROR the error. A buffer of 2 * length bytes always suffices. */
+ * there is none, and `buffer_length` is 0. FIRTHNAPKIN_SYNTAX_ERROR: the source can't be tokenized, and the error is its first
+ * lexical error, of the kind FIRTHNAPKIN_ERROR_LEXICAL. It also returns FIRTHNAPKIN_NOT_UTF8, FIRTHNAPKIN_OUT_OF_MEMORY and
+ * FIRTHNAPKIN_SOURCE_TOO_LONG. All statuses but FIRTHNAPKIN_OK leave `buffer` as it was. All but FIRTHNAPKIN_SYNTAX_ERROR
+ * leave the error as it was. A buffer of 2 * length bytes always suffices. */
 uint32_t firthnapkin_canonical(const uint8_t *source, size_t length, uint8_t *buffer, size_t buffer_capacity,
                                size_t *buffer_length, firthnapkin_error *error);
 

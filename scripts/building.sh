@@ -63,9 +63,9 @@ sums_of() {
 # archive_for [PROCESSOR]: the proved archive of the library for C, which ./c-library links, for another processor than x86-64. For
 # wasm32 it is LLVM's module of that archive, which ./c-library translates.
 archive_for() {
-    local file=libjuniper_c.a
+    local file=libfirthnapkin_calls.a
     [ "${1-}" != wasm32 ] || file=module.bc
-    echo "$root/crates/juniper_c/out/${1:+$1/}$file"
+    echo "$root/crates/firthnapkin_calls/out/${1:+$1/}$file"
 }
 
 # is_current NAME [PRODUCT]: whether what a proof of this crate built is there, as it was built, and of the sources that are there
@@ -123,7 +123,7 @@ is_linked() {
 
 # has_library [PROCESSOR]: whether it is, of the sources that are there.
 has_library() {
-    is_current juniper_c "$(archive_for "$@")" && is_linked "$@"
+    is_current firthnapkin_calls "$(archive_for "$@")" && is_linked "$@"
 }
 
 # Sets $python to a Python that can build the package, and to nothing if there is none.

@@ -196,6 +196,22 @@ CALLS = [(("input_value", call), name, text, most) for call, name, text, most in
     (("parse", "200"), "definitions", TEXTS["definitions"], LINEAR),
 ]
 
+# The calls from C on sources that are one value or one type, or begin with one.
+LITERALS = [
+    ("value", "a list alone", LISTS("1 ")),
+    ("value", "an object alone", OBJECT("k№: E ")),
+    ("value", "objects in objects alone", lambda n: "[" + nested(n, "{k:", "1", "}", 190) + "]"),
+    ("value", "escapes alone", repeated('"', r"\u00e9\n", '"')),
+    ("value", "a block string of many lines alone", repeated('"""', "\n  line", '"""')),
+    ("value", "strings past ASCII alone", LISTS('"мир" ')),
+    ("value", "a list without an end", repeated("[", "1 ")),
+    ("value", "tokens after a value", WORDS("1 ")),
+    ("type", "a long name alone", WORDS("a")),
+    ("type", "a long name in brackets", lambda n: "[" * 190 + times(n, "a") + "!]" * 190),
+    ("type", "comments past ASCII in a type", repeated("[", "#é\n", "T]")),
+    ("type", "tokens after a type", WORDS("T ")),
+]
+
 # The inputs of which it is measured how many bytes each call requests. Lists and selection sets have two and seven parts, since
 # short ones have capacity at once by their length.
 REQUESTING = {
@@ -271,6 +287,10 @@ HELD = [
     (["c", "parse"], "brackets without an end", 0, 0.01),
     (["c", "complexities"], "definitions", 4, 10.51),
     (["c", "complexities"], "fields", 0, 0.01),
+    (["c", "value"], "an object alone", 0, 0.01),
+    (["c", "value"], "escapes alone", 0, 0.01),
+    (["c", "value"], "strings past ASCII alone", 4, 4.01),
+    (["c", "type"], "a long name in brackets", 0, 0.01),
     (["c", "tokens"], "definitions", 0, 0.01),
     (["c", "tokens"], "text past ASCII", 4, 4.01),
     (["c", "count"], "definitions", 0, 0.01),

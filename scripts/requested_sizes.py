@@ -32,7 +32,7 @@ SIZES = {
     ("juniper_answers/src/value.rt", "with_capacity"): [("Entries::with_capacity(alloc, size) | Ok(Object {", TOLD)],
     ("juniper_answers/src/value.rt", "from_iter"): [("Object::with_capacity(alloc, 0)", FIXED)],
     ("juniper_canonical/src/text.rt", "canonical_text"): [("String::with_capacity(alloc, source.len())", BYTES)],
-    ("juniper_flat/src/byte_table.rt", "new"): [("Vec::with_capacity(alloc, source.len())", BYTES)],
+    ("firthnapkin_results/src/byte_table.rt", "new"): [("Vec::with_capacity(alloc, source.len())", BYTES)],
     ("juniper_outlines/src/operations.rt", "first_states"): [("Vec::with_capacity(alloc, definitions.len())", EACH)],
     ("juniper_tokens/src/cursor.rt", "expected"): [
         ("if M::IS_STREAM { self.stream.expected() } else { self.records.expected(self.taken) }", GUESS)

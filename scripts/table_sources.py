@@ -5,31 +5,31 @@ import re
 from pathlib import Path
 
 CRATES = Path(__file__).resolve().parent.parent / "crates"
-FAULTS = "juniper_flat/specs/Faults.antt"
+FAULTS = "firthnapkin_results/specs/Faults.antt"
 
 # Where the numbers of a table are: a file, and a pattern for a name and its number.
 NUMBERS = {
-    "statuses": [("juniper_flat/src/status.rt", r"^pub const (\w+): u32 = (\d+);")],
+    "statuses": [("firthnapkin_results/src/status.rt", r"^pub const (\w+): u32 = (\d+);")],
     "kinds": [
-        ("juniper_flat/specs/Nodes.antt", r"^kind_number kind\.(?!Scalar)(\w+) = (\d+)$"),
-        ("juniper_flat/src/node.rt", r"ScalarForm::(\w+)(?:\(_\))? => (\d+),"),
+        ("firthnapkin_results/specs/Nodes.antt", r"^kind_number kind\.(?!Scalar)(\w+) = (\d+)$"),
+        ("firthnapkin_results/src/node.rt", r"ScalarForm::(\w+)(?:\(_\))? => (\d+),"),
     ],
-    "tokens": [("juniper_flat/specs/Tokens.antt", r"^kind_number kind\.(\w+) = (\d+)$")],
+    "tokens": [("firthnapkin_results/specs/Tokens.antt", r"^kind_number kind\.(\w+) = (\d+)$")],
     "errors": [
         (FAULTS, r"^(?:error_reason )?\(?(?:errors\.)?(\w+?)(?:_reason)?(?: t\))? = because (\d+) 0 0$"),
         (FAULTS, r"^(lexical)_reason .* = because (\d+) "),
     ],
     "details": [
         (FAULTS, r"^lexical_reason \(?(\w+).* = because 2 (\d+) "),
-        ("juniper_flat/src/fault.rt", r"^pub const (NO_DETAIL): u32 = (\d+);"),
+        ("firthnapkin_results/src/fault.rt", r"^pub const (NO_DETAIL): u32 = (\d+);"),
     ],
 }
 # Where the order of a table's first rows is: a file, and a pattern for a name.
 ORDERS = {
     "kinds": ("graphql_nodes/src/kind.rt", r"^    (?!Scalar)(\w+),$"),
     "tokens": ("graphql_lexical/src/kind.rt", r"^    (\w+),$"),
-    "limits": ("juniper_flat/src/limits.rt", r"^    pub (\w+): u32,$"),
-    "complexity": ("juniper_flat/specs/Weighed.antt", r"^  (\w+) = saturated found\.complexity\."),
+    "limits": ("firthnapkin_results/src/limits.rt", r"^    pub (\w+): u32,$"),
+    "complexity": ("firthnapkin_results/specs/Weighed.antt", r"^  (\w+) = saturated found\.complexity\."),
 }
 TEXTS = ("graphql_lexical/specs/Kinds.antt", r'^spelling (\w+) = Fixed \(codes "(.*)"\)$')
 CHARACTERS = (FAULTS, r"^lexical_reason \((\w+) c\) = because .* c$")

@@ -1,6 +1,6 @@
 #!/usr/bin/env python3
 """Compares include/firthnapkin.h, as it is written and as a C compiler lays it out, with the sources of the crates
-juniper_flat and juniper_c. Those of the first have the fields of each type, their types, offsets and sizes, and the depths.
+firthnapkin_results and firthnapkin_calls. Those of the first have the fields of each type, their types, offsets and sizes, and the depths.
 Those of the second have the calls' parameters. scripts/tables compares the header's enums. The last line is
 'N passed, M failed'.
 
@@ -16,7 +16,7 @@ checks = Checks()
 check = checks.check
 
 
-def source(name, crate="juniper_flat"):
+def source(name, crate="firthnapkin_results"):
     return read(f"crates/{crate}/src/{name}.rt")
 
 
@@ -90,6 +90,7 @@ C_TYPES = {
     "source: &[u8]": ["const uint8_t *source", "size_t length"],
     "limits: &Limits": ["const firthnapkin_limits *limits"],
     "max_tokens: u32": ["uint32_t max_tokens"],
+    "constant: u32": ["uint32_t constant"],
     "nodes: &mut [Node]": ["firthnapkin_node *nodes", "size_t nodes_capacity"],
     "nodes_length: &mut usize": ["size_t *nodes_length"],
     "texts: &mut [u8]": ["uint8_t *texts", "size_t texts_capacity"],
@@ -106,8 +107,19 @@ C_TYPES = {
     "alloc: Global": [],
 }
 exported = 0
-for name in ("parse", "parse_complexities", "message", "excerpt", "count", "tokens", "canonical", "version"):
-    text = source(name, "juniper_c")
+for name in (
+    "parse",
+    "parse_complexities",
+    "parse_value",
+    "parse_type",
+    "message",
+    "excerpt",
+    "count",
+    "tokens",
+    "canonical",
+    "version",
+):
+    text = source(name, "firthnapkin_calls")
     for call, parameters, result in re.findall(r'pub extern "C" fn (\w+)\((.*?)\) -> (\w+)', text, re.S):
         exported += 1
         wanted = [c for p in re.split(r",\s*", parameters.strip(" ,\n")) if p for c in C_TYPES[p.strip()]]

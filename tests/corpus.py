@@ -18,8 +18,9 @@ sys.path.append(str(Path(__file__).resolve().parent.parent / "scripts"))
 import growth_rows  # noqa: E402
 import rows  # noqa: E402
 
-# How many documents are made. There are as many other texts.
+# How many documents are made. There are as many other texts. And how many values and types are made, each alone.
 MADE = 1000
+LITERALS = 200
 # About how many bytes a shape has.
 SHAPES = (60, 700)
 FILES = ("gqlcheck.rows", "peer.rows", "canonical.rows", "completed.rows", "complexities.rows", "lexer.rows", "limits.rows")
@@ -200,6 +201,16 @@ def made(count: int = MADE) -> Iterator[str]:
         yield writer.broken()
 
 
+def literals() -> Iterator[str]:
+    """Values and types alone, and texts like them."""
+    for number in range(LITERALS):
+        for make in (Writer.value, lambda writer: writer.value(is_constant=True), Writer.type):
+            writer = Writer(number)
+            make(writer)
+            yield "".join(writer.parts)
+            yield writer.broken()
+
+
 SMALL = (
     'query Q($v: [T!]! = [1, "é"] @d) { k: a(x: "𝄞\\n", y: {b: 1.5, c: E, d: $v, e: -7}) @d { ...F } ... on T { b } }\n'
     'fragment F on T { b @d(z: """\n é\n""") ... @d { c: d(l: [true, null, 9007199254740993]) } }'
@@ -234,7 +245,7 @@ BEYOND = re.compile(r"[0-9][eE]\+?[0-9]{4}|[0-9]{309}")
 
 def texts(count: int = MADE) -> List[str]:
     shapes = [shape(size) for shape in growth_rows.TEXTS.values() for size in SHAPES]
-    every = dict.fromkeys([*of_rows(), *SCHEMAS, *shapes, *made(count), *large()])
+    every = dict.fromkeys([*of_rows(), *SCHEMAS, *shapes, *made(count), *literals(), *large()])
     return [text for text in every if not BEYOND.search(text)]
 
 

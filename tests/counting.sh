@@ -21,8 +21,21 @@ skip() {
     skipped=$((skipped + 1))
 }
 
+# section NAME: begins a section of the script. When it ends a line says how many cases it tried, without those of sections in it.
+section_name='' section_start=0
+section() {
+    end_section
+    section_name=$1 section_start=$((passed + failed))
+    echo "== $1"
+}
+end_section() {
+    [ -z "$section_name" ] || echo "cases of $section_name: $((passed + failed - section_start))"
+    section_name=''
+}
+
 # finish: ends with the numbers, and with the status that says whether something failed.
 finish() {
+    end_section
     echo "$passed passed, $failed failed, $skipped skipped"
     [ "$failed" = 0 ]
     exit
@@ -47,19 +60,21 @@ add_numbers() {
     ! grep -qE ': runtime error: |==ERROR: [A-Za-z]+Sanitizer: ' "$1" || fails "$3: a sanitizer reported something"
 }
 
-# shown_skips FILE: the lines of it that say what was skipped.
+# shown_skips FILE: the lines of it that say what was skipped, and how many cases a section tried.
 shown_skips() {
-    grep -E '^([a-z_.]+: )?skipped: |^ *--- SKIP|^ +[a-z_]+_test\.go:[0-9]+: |^ok .* # SKIP' "$1" || true
+    grep -E '^([a-z_.]+: )?skipped: |^ *--- SKIP|^ +[a-z_]+_test\.go:[0-9]+: |^ok .* # SKIP|^cases of ' "$1" || true
 }
 
 # counted COMMAND ..: runs it, adds the numbers of its last line, and sets $status to its exit status. What it wrote is shown
-# if something failed, and else what it skipped.
+# if something failed, and else what it skipped, and how many cases its sections tried.
 counted() {
-    local failed_before=$failed
+    local failed_before=$failed shown=cat cases
     "$@" > "$folder/output" 2>&1
     status=$?
     add_numbers "$folder/output" "$status" "$*"
-    if [ "$failed" = "$failed_before" ]; then shown_skips "$folder/output"; else cat "$folder/output"; fi
+    [ "$failed" != "$failed_before" ] || shown=shown_skips
+    $shown "$folder/output" | awk -v within="${section_name:+$section_name: }" '/^cases of / { $0 = "cases of " within substr($0, 10) } 1'
+    for cases in $(sed -n 's/^cases of .*: //p' "$folder/output"); do section_start=$((section_start + cases)); done
 }
 
 # tested NAME PASSED FAILED COMMAND ..: runs it, and counts the lines of each pattern, without those of tests that were skipped,

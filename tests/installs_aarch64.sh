@@ -7,6 +7,8 @@ has_aarch64() {
     qemu=$(command -v qemu-aarch64-static || command -v qemu-aarch64) || { skip 'no qemu-aarch64-static'; return 1; }
     libraries=$(aarch64-linux-gnu-gcc -print-file-name=libc.so.6 2> "$folder/output") || { skip 'no compiler for aarch64'; return 1; }
     libraries=$(realpath "${libraries%/*}/..")
+    # Debian's own glibc for arm64 would be mixed with the compiler's: the loader of one, the library of the other.
+    [ ! -e /lib/ld-linux-aarch64.so.1 ] || libraries=/
 }
 
 # runs_there COMMAND ..: runs a program for aarch64. is_there PROGRAM: whether the folder has it; from_folder runs it.
@@ -92,6 +94,15 @@ aarch64_python() {
     is_there python3 || return
     program "$folder/python/README.md" > main.py
     same "Python's program on aarch64" "$(PYTHONPATH=$PWD/site from_folder python3 main.py 2>&1)" "$(shown "$folder/python/README.md")"
+    tar -xzf "firthnapkin-$version.tar.gz" && runs 'the source distribution is built for aarch64' within "firthnapkin-$version" build_sources &&
+        same "Python's program on aarch64, of the source distribution" \
+            "$(PYTHONPATH=$PWD/firthnapkin-$version/built from_folder python3 main.py 2>&1)" "$(shown "$folder/python/README.md")"
+}
+
+# Builds the source distribution for aarch64 by this machine's Python, in the folder `built`.
+build_sources() {
+    write_header "$PWD/headers" aarch64 && has_sizes aarch64-linux-gnu-gcc "$PWD/headers" &&
+        _PYTHON_HOST_PLATFORM=linux-aarch64 CC=aarch64-linux-gnu-gcc CPATH=$PWD/headers "$python" setup.py --quiet build --build-lib built
 }
 
 # The package for Node, as npm installed it here: it has an addon for each processor.
@@ -104,6 +115,12 @@ aarch64_node() {
     program "$folder/node/README.md" > main.js
     rm -f "$folder/called"
     same "Node's program on aarch64" "$(from_folder node main.js 2>&1)" "$(shown "$folder/node/README.md")"
+    if [ -e node_modules/firthnapkin/firthnapkin.wasm ]; then
+        same "Node's program over WebAssembly on aarch64" "$(FIRTHNAPKIN_WASM=1 from_folder node main.js 2>&1)" \
+            "$(shown "$folder/node/README.md")"
+        as_module
+        same 'the program with the ES module on aarch64' "$(from_folder node main.mjs 2>&1)" "$(shown "$folder/node/README.md")"
+    fi
     CC=$folder/no-compiler runs 'its install script on aarch64' from_folder node node_modules/firthnapkin/build.js
     if [ -e "$folder/called" ]; then fails 'its install script calls a compiler on aarch64'; else passes; fi
     echo other > node_modules/firthnapkin/firthnapkin-arm64.node
@@ -122,7 +139,7 @@ aarch64_rust() {
     same 'the archive that the crate links on aarch64' \
         "$(cargo build -vv --target $target 2>&1 | sed -n 's/.*rustc-link-search=native=//p')" \
         "$PWD/firthnapkin-$version/native/aarch64"
-    same 'the calls of that archive' "$(aarch64-linux-gnu-nm "firthnapkin-$version/native/aarch64/libfirthnapkin.a" | grep -c ' T firthnapkin_')" 8
+    same 'the calls of that archive' "$(aarch64-linux-gnu-nm "firthnapkin-$version/native/aarch64/libfirthnapkin.a" | grep -c ' T firthnapkin_')" 10
     if [ ! -d "$(rustc --print sysroot)/lib/rustlib/$target/lib" ]; then
         skip "no library of Rust for $target"
     else
@@ -149,10 +166,4 @@ aarch64_go() {
         runs "go build for arm64 $module" env GOARCH=arm64 CGO_ENABLED=1 CC=aarch64-linux-gnu-gcc go build $module -o user . &&
             same "Go's program on arm64 $module" "$(runs_there ./user 2>&1)" "$wanted"
     done
-    if command -v musl-gcc > "$folder/output"; then
-        runs 'go build with musl' env CC=musl-gcc go build -mod=vendor -ldflags '-linkmode external -extldflags -static' -o user . &&
-            same "Go's program with musl" "$(./user 2>&1)" "$wanted"
-    else
-        skip 'no musl-gcc'
-    fi
 }

@@ -1,6 +1,53 @@
-# How tests/check_installs tries what a release has for musl. FIRTHNAPKIN_MUSL_PYTHON names a Python that is linked with musl, and
-# addon-PROCESSOR is a program with musl that has what Node's addon takes: tests/c/addon.c. It is sourced by that script.
+# How tests/check_installs tries what a release has for musl. FIRTHNAPKIN_MUSL_PYTHON names a Python that is linked with musl,
+# FIRTHNAPKIN_MUSL_PYTHON_AARCH64 one for aarch64, and addon-PROCESSOR is a program with musl that has what Node's addon takes:
+# tests/c/addon.c. It is sourced by that script.
 # shellcheck shell=bash
+
+# has_musl PROCESSOR: whether the release is for this processor, and programs with musl are linked for it and run, by $runner if
+# that isn't empty.
+has_musl() {
+    runner=''
+    [ -e "$release/firthnapkin-$version-linux-$1.tar.gz" ] || return
+    if ! command -v "$1-linux-musl-gcc" > "$folder/output"; then
+        skip "no $1-linux-musl-gcc"
+        return 1
+    elif [ "$1" = aarch64 ] && ! runner=$(command -v qemu-aarch64-static || command -v qemu-aarch64); then
+        skip 'no qemu-aarch64-static'
+        return 1
+    fi
+}
+
+# The archive in the tarballs for C.
+musl_c() {
+    local processor name runner
+    new_folder musl-c
+    for processor in x86_64 aarch64; do
+        has_musl $processor || continue
+        name=firthnapkin-$version-linux-$processor
+        tar -xzf "$name.tar.gz" && program "$name/README.md" > names.c
+        runs "a program is linked with musl on $processor" $processor-linux-musl-gcc -static names.c "-I$name/include" \
+            "$name/lib/libfirthnapkin.a" -o names && same "C's program with musl on $processor" "$($runner ./names)" "$(shown "$name/README.md")"
+    done
+}
+
+# The module.
+musl_go() {
+    local processor wanted runner
+    new_folder musl-go
+    command -v go > "$folder/output" || { skip 'no go, so no module is linked with musl'; return; }
+    tar -xzf "firthnapkin-go-$version.tar.gz"
+    wanted=$(shown "firthnapkin-go-$version/README.md")
+    export GOFLAGS=-mod=readonly GOCACHE=$folder/go-cache GOPATH=$folder/go-path GOPROXY=off
+    runs 'go mod init for musl' go mod init user
+    runs 'go mod edit for musl' eval "$(block "firthnapkin-go-$version/README.md" 1 | tail -n 1)"
+    program "firthnapkin-go-$version/README.md" > main.go
+    for processor in x86_64 aarch64; do
+        has_musl $processor || continue
+        runs "go build with musl on $processor" env CGO_ENABLED=1 GOARCH="$([ $processor = x86_64 ] && echo amd64 || echo arm64)" \
+            CC=$processor-linux-musl-gcc go build -ldflags '-linkmode external -extldflags -static' -o user . &&
+            same "Go's program with musl on $processor" "$($runner ./user 2>&1)" "$wanted"
+    done
+}
 
 # with_musl VERSION COMMAND ..: as if this machine's Python and Node were programs of this musl: $standing names the program that
 # they are told to be, and this script is its loader.
@@ -62,6 +109,27 @@ with_musl_python() {
         runs 'pip builds the source distribution with musl' environment/bin/pip install --no-build-isolation --force-reinstall \
         "firthnapkin-$version.tar.gz" || return
     same "Python's program with musl, of the source distribution" "$(environment/bin/python main.py 2>&1)" "$(shown ../python/README.md)"
+}
+
+# The wheel for aarch64, unpacked by a Python with musl for that processor, which passes the package's tests with it. That Python is
+# run by a script, so pip doesn't see its C library, and is told for what it unpacks.
+musl_python_on_aarch64() {
+    local wheel=firthnapkin-$version-cp39-abi3-musllinux_1_2_aarch64.whl unpack='pip install --no-index --no-deps --only-binary=:all:'
+    local there=${FIRTHNAPKIN_MUSL_PYTHON_AARCH64:-}
+    new_folder musl-python-on-aarch64
+    [ -e "$wheel" ] || return 0
+    if [ -z "$there" ]; then
+        skip 'no Python with musl for aarch64: FIRTHNAPKIN_MUSL_PYTHON_AARCH64 may name one, which tests/musl_python builds'
+        return
+    fi
+    runs 'pip unpacks the wheel for musl on aarch64' "$there" -m $unpack --target site --platform musllinux_1_2_aarch64 "$wheel" || return
+    program ../python/README.md > main.py
+    export PYTHONPATH=$PWD/site FIRTHNAPKIN_IS_EMULATED=1
+    same 'what Python with musl runs on' \
+        "$("$there" -c 'import os; print(os.uname().machine, "ld-musl-aarch64" in open("/proc/self/maps").read())')" 'aarch64 True'
+    same "Python's program with musl on aarch64" "$("$there" main.py 2>&1)" "$(shown ../python/README.md)"
+    counted "$there" -B "$here/bindings/python/tests"
+    unset PYTHONPATH FIRTHNAPKIN_IS_EMULATED
 }
 
 # The package for Node, as it was installed. No Node with musl is here: with an older musl its install script builds no addon, and with

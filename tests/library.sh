@@ -31,7 +31,7 @@ in_folder() {
 gives() {
     local seen
     seen=$("${tools}nm" -g --defined-only $([[ $1 = *.so* ]] && echo -D) "$1" | awk 'NF == 3 { print $3 }' | sort | tr '\n' ' ')
-    installed "$seen" "$(printf 'firthnapkin_%s ' canonical count excerpt message parse parse_complexities tokens version)" \
+    installed "$seen" "$(printf 'firthnapkin_%s ' canonical count excerpt message parse parse_complexities parse_type parse_value tokens version)" \
         "what $1 gives"
 }
 

@@ -57,6 +57,9 @@ suite_of_node() {
         printf 'process.execPath = "%s";\n' "$folder/node" > "$folder/path.js"
         export NODE_OPTIONS="--require $folder/path.js" FIRTHNAPKIN_IS_EMULATED=1
         installed "$("$folder/node" -p 'process.arch + " " + process.execPath')" "arm64 $folder/node" 'what Node runs on'
+        # A build for another processor doesn't write it.
+        in_folder "$root/bindings/node" "$folder/node" -e \
+            'require("fs").writeFileSync("lib/limits.d.ts", require("./lib/limits").declaration())' || fails 'lib/limits.d.ts'
         tested 'node --test for arm64' '^ok ' '^not ok ' in_folder "$root/bindings/node" "$folder/node" --test --test-reporter=tap test
         unset NODE_OPTIONS FIRTHNAPKIN_IS_EMULATED
     fi

@@ -106,8 +106,11 @@ func (d *Document) Children(i int) []int {
 	return d.between(i+1, d.Next(i))
 }
 
-// Definitions returns the operations and fragments.
+// Definitions returns the operations and fragments. A value or a type that was parsed alone has none.
 func (d *Document) Definitions() []int {
+	if len(d.Nodes) > 0 && d.Nodes[0].Kind > KindFragmentDefinition {
+		return nil
+	}
 	return d.between(0, len(d.Nodes))
 }
 

@@ -115,7 +115,7 @@ func (e *SyntaxError) Excerpt() string {
 	return excerptAt(e.source, e.Start.Byte)
 }
 
-func syntaxErrorOf(source string, found *C.firthnapkin_error) error {
+func syntaxErrorOf(source string, found *C.firthnapkin_error, words func(string, Position, Position) string) error {
 	message, err := wordsOf(source, found, func(buffer *C.char, capacity C.size_t, length *C.size_t) C.uint32_t {
 		return C.message(bytesOf(source), C.size_t(len(source)), found, buffer, capacity, length)
 	})
@@ -124,7 +124,7 @@ func syntaxErrorOf(source string, found *C.firthnapkin_error) error {
 	}
 	start, end := positionOf(found.start), positionOf(found.end)
 	if found.kind == C.FIRTHNAPKIN_ERROR_UNEXPECTED_TOKEN {
-		message += wordsOn(source, start, end)
+		message += words(source, start, end)
 	}
 	return &SyntaxError{
 		Message: message,

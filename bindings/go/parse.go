@@ -250,10 +250,15 @@ func atFirst(source string) int {
 
 // errorOf returns the error of a status, with what the call found.
 func errorOf(status C.uint32_t, source string, found *C.firthnapkin_error) error {
+	return errorWith(status, source, found, wordsOn)
+}
+
+// errorWith is errorOf with other words on an unexpected token.
+func errorWith(status C.uint32_t, source string, found *C.firthnapkin_error, words func(string, Position, Position) string) error {
 	switch status {
 	case C.FIRTHNAPKIN_SYNTAX_ERROR, C.FIRTHNAPKIN_TOO_DEEP, C.FIRTHNAPKIN_TOO_MANY_TOKENS, C.FIRTHNAPKIN_UNKNOWN_FRAGMENT,
 		C.FIRTHNAPKIN_FRAGMENT_CYCLE:
-		return syntaxErrorOf(source, found)
+		return syntaxErrorOf(source, found, words)
 	case C.FIRTHNAPKIN_NOT_UTF8:
 		return ErrNotUTF8
 	case C.FIRTHNAPKIN_OUT_OF_MEMORY:

@@ -3,7 +3,7 @@
 package firthnapkin
 
 // Part is what all parts of a document have: an Operation, a Fragment, a Field, a FragmentSpread, an InlineFragment, a
-// VariableDefinition, a Directive, an Argument. A part is made when it is asked for, and refers to its document. The zero value of
+// VariableDefinition, a Directive, an Argument, a ParsedValue, a ParsedType. A part is made when it is asked for, and refers to its document. The zero value of
 // these types is no part, and has none of this.
 type Part interface {
 	Document() *Document

@@ -89,9 +89,12 @@ typedef struct {
 static int are_read(napi_env env, napi_callback_info info, size_t wanted, call_arguments *a) {
     napi_value values[MOST_ARGUMENTS];
     size_t count = wanted;
+    bool is_buffer = false;
     if (napi_get_cb_info(env, info, &count, values, NULL, NULL) != napi_ok || count < wanted) return 0;
     a->other = values[1];
     a->allocate = values[wanted - 1];
+    /* Node 18 ends the process if it is asked for the bytes of anything else. */
+    if (napi_is_buffer(env, values[0], &is_buffer) != napi_ok || !is_buffer) return 0;
     return napi_get_buffer_info(env, values[0], &a->source, &a->length) == napi_ok;
 }
 
@@ -128,6 +131,28 @@ static napi_value parse(napi_env env, napi_callback_info info) {
         return failed(env, "parse takes a buffer, limits and a function");
     whole w = document_whole(a.source, a.length, &limits.call, &limits.sizes);
     return result_of(env, &w, w.nodes, w.nodes_count * sizeof *w.nodes, a.allocate);
+}
+
+/* A parse of a source that is no document. */
+static napi_value parse_literal(napi_env env, napi_callback_info info, parsed_as as) {
+    call_arguments a;
+    package_limits limits;
+    if (!are_read(env, info, 3, &a) || !are_limits(env, a.other, &limits))
+        return failed(env, "it takes a buffer, limits and a function");
+    whole w = whole_as(as, a.source, a.length, &limits.call);
+    return result_of(env, &w, w.nodes, w.nodes_count * sizeof *w.nodes, a.allocate);
+}
+
+static napi_value parse_value(napi_env env, napi_callback_info info) {
+    return parse_literal(env, info, AS_VALUE);
+}
+
+static napi_value parse_constant(napi_env env, napi_callback_info info) {
+    return parse_literal(env, info, AS_CONSTANT);
+}
+
+static napi_value parse_type(napi_env env, napi_callback_info info) {
+    return parse_literal(env, info, AS_TYPE);
 }
 
 static napi_value check(napi_env env, napi_callback_info info) {
@@ -232,6 +257,9 @@ NAPI_MODULE_INIT() {
         return failed(env, "memory ran out");
     }
     if (!has(env, exports, "parse", napi_create_function(env, "parse", NAPI_AUTO_LENGTH, parse, NULL, &value), &value)
+        || !has(env, exports, "parseValue", napi_create_function(env, "parseValue", NAPI_AUTO_LENGTH, parse_value, NULL, &value), &value)
+        || !has(env, exports, "parseConstant", napi_create_function(env, "parseConstant", NAPI_AUTO_LENGTH, parse_constant, NULL, &value), &value)
+        || !has(env, exports, "parseType", napi_create_function(env, "parseType", NAPI_AUTO_LENGTH, parse_type, NULL, &value), &value)
         || !has(env, exports, "check", napi_create_function(env, "check", NAPI_AUTO_LENGTH, check, NULL, &value), &value)
         || !has(env, exports, "parsePacked", napi_create_function(env, "parsePacked", NAPI_AUTO_LENGTH, parse_packed, NULL, &value), &value)
         || !has(env, exports, "isDocument", napi_create_function(env, "isDocument", NAPI_AUTO_LENGTH, is_document, NULL, &value), &value)

@@ -191,6 +191,7 @@ export interface Fragment extends Part {
 /** What is selected: `kind` tells which. */
 export type Selection = Field | FragmentSpread | InlineFragment;
 
+/** A field that is selected. */
 export interface Field extends Part {
   readonly kind: "field";
   readonly alias: string | null;
@@ -233,6 +234,7 @@ export interface VariableDefinition extends Part {
   readonly directives: Directive[];
 }
 
+/** The use of a directive. */
 export interface Directive extends Part {
   readonly kind: "directive";
   /** The name, without `@`. */
@@ -256,6 +258,7 @@ export interface Argument extends Part {
  */
 export type Value = null | boolean | number | bigint | string | EnumValue | Variable | Value[] | ObjectValue;
 
+/** An object: a value for each name, of equal names the last. */
 export interface ObjectValue {
   readonly [name: string]: Value;
 }
@@ -359,6 +362,42 @@ export function check(source: string, options?: Options): void;
  */
 export function parse(source: string, options?: Options): Document;
 
+/** A value that was parsed alone. Its document has the value's nodes, and no definitions. */
+export interface ParsedValue extends Part {
+  readonly kind: "null" | "enum" | "variable" | "list" | "object" | "int" | "largeInt" | "float" | "string" | "blockString" | "boolean";
+  /** What the value means, as `Argument.value`. */
+  readonly value: Value;
+}
+
+/** A type that was parsed alone. Its document has one node, and no definitions. */
+export interface ParsedType extends Part {
+  readonly kind: "type";
+  /** The type without spaces, as `[ID!]!`. */
+  readonly type: string;
+}
+
+/** The options of `parse` that say something of a source that is no document. */
+export interface TypeOptions {
+  depth?: number;
+  maxTokens?: number;
+  name?: string;
+}
+
+/** What `parseValue` takes. */
+export interface ValueOptions extends TypeOptions {
+  /** Whether the value is constant: then a variable in it is an error. */
+  constant?: boolean;
+}
+
+/**
+ * The value that a source is, as `{a: [1, $b]}`. Throws what `parse` throws, if the source isn't one value, and a TypeError if
+ * `constant` is no boolean.
+ */
+export function parseValue(source: string, options?: ValueOptions): ParsedValue;
+
+/** The type that a source is, as `[ID!]!`. Throws what `parse` throws, if the source isn't one type. */
+export function parseType(source: string, options?: TypeOptions): ParsedType;
+
 /** The kind of a token. */
 export type TokenKind =
   // tables.toml: tokens
@@ -422,6 +461,7 @@ export interface Tokens extends Iterable<Token> {
   token(index: number): Token;
 }
 
+/** What `tokens` takes. */
 export interface TokenOptions {
   /** How many tokens the source may have, its end not counted; any number if it isn't given. */
   maxTokens?: number;
@@ -429,6 +469,7 @@ export interface TokenOptions {
   name?: string;
 }
 
+/** What `canonical` takes. */
 export interface CanonicalOptions {
   /** The name of the source, as that of its file: errors have it as `sourceName`. */
   name?: string;
@@ -449,13 +490,14 @@ export function tokens(source: string, options?: TokenOptions): Tokens;
  */
 export function canonical(source: string, options?: CanonicalOptions): string;
 
+/** What `toGraphQL` takes. */
 export interface GraphQLOptions {
   /** graphql-js's module, as `require("graphql")`: nodes then have `loc`, of its classes, with the tokens of its lexer. */
   graphql?: object;
 }
 
 /**
- * A document as graphql-js 16 has it, a `DocumentNode`: equal to what its `parse` returns with the option `noLocation`, or to what it
+ * A document as graphql-js 16 has it, a `DocumentNode`, and that of a `ParsedValue` or a `ParsedType` as its `ValueNode` or `TypeNode`: equal to what its `parse` returns with the option `noLocation`, or to what it
  * returns without if it is given its module. Throws a TypeError if it is given no document, or other options; with the module also
  * what graphql-js's lexer throws, which refuses a number that a name follows directly. Each level of nesting is a call, as in
  * graphql-js: JavaScript throws a RangeError if its stack is too small.

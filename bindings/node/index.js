@@ -10,6 +10,7 @@ const { FirthnapkinError } = require("./lib/errors");
 const { foundIn, requireDocument } = require("./lib/found");
 const { toGraphQL } = require("./lib/graphql");
 const { Token, Tokens, canonical, tokens } = require("./lib/lexer");
+const { ParsedType, ParsedValue, parseType, parseValue } = require("./lib/literals");
 const {
   Argument, Directive, Field, Fragment, FragmentSpread, InlineFragment, Operation, VariableDefinition,
 } = require("./lib/parts");
@@ -34,6 +35,6 @@ function check(source, options = NO_OPTIONS) {
 
 // Node finds the names of a literal for `import { parse } from "firthnapkin"`.
 module.exports = {
-  check, parse, tokens, canonical, toGraphQL, Document, Operation, Fragment, Field, FragmentSpread, InlineFragment, VariableDefinition, Directive,
+  check, parse, parseValue, parseType, ParsedValue, ParsedType, tokens, canonical, toGraphQL, Document, Operation, Fragment, Field, FragmentSpread, InlineFragment, VariableDefinition, Directive,
   Argument, EnumValue, Variable, Node, Tokens, Token, FirthnapkinError, MAX_DEPTH, version,
 };

@@ -56,6 +56,23 @@ EXPORT(parse) found_numbers *parse(const uint8_t *source, uint32_t length) {
     return result_of(found.nodes, found.nodes_count * sizeof *found.nodes);
 }
 
+static found_numbers *parse_literal(parsed_as as, const uint8_t *source, uint32_t length) {
+    found = whole_as(as, source, length, &limits.call);
+    return result_of(found.nodes, found.nodes_count * sizeof *found.nodes);
+}
+
+EXPORT(parse_value) found_numbers *parse_value(const uint8_t *source, uint32_t length) {
+    return parse_literal(AS_VALUE, source, length);
+}
+
+EXPORT(parse_constant) found_numbers *parse_constant(const uint8_t *source, uint32_t length) {
+    return parse_literal(AS_CONSTANT, source, length);
+}
+
+EXPORT(parse_type) found_numbers *parse_type(const uint8_t *source, uint32_t length) {
+    return parse_literal(AS_TYPE, source, length);
+}
+
 EXPORT(check) found_numbers *check(const uint8_t *source, uint32_t length) {
     found = check_whole(source, length, &limits.call, &limits.sizes);
     return result_of(NULL, 0);

@@ -78,6 +78,9 @@ napi_status napi_set_element(napi_env env, napi_value object, uint32_t index, na
     return napi_set_named_property(env, object, name, value);
 }
 
+napi_status napi_is_buffer(napi_env env, napi_value value, bool *result) {
+    return *result = value->kind == BYTES, napi_ok;
+}
 napi_status napi_get_buffer_info(napi_env env, napi_value value, void **bytes, size_t *size) {
     *bytes = value->bytes, *size = value->size;
     return value->kind == BYTES ? napi_ok : napi_invalid_arg;
@@ -195,6 +198,9 @@ static void try_source(const char *text, uint32_t depth, uint32_t fields) {
     const napi_value given[] = {bytes, words, allocate}, two[] = {bytes, allocate}, five[] = {bytes, number, allocate};
 
     compare("parse", text, 3, given, document_whole(source, length, &limits.call, &limits.sizes), 1);
+    compare("parseValue", text, 3, given, whole_as(AS_VALUE, source, length, &limits.call), 1);
+    compare("parseConstant", text, 3, given, whole_as(AS_CONSTANT, source, length, &limits.call), 1);
+    compare("parseType", text, 3, given, whole_as(AS_TYPE, source, length, &limits.call), 1);
     compare("check", text, 3, given, check_whole(source, length, &limits.call, &limits.sizes), 0);
     compare("complexities", text, 2, two, complexities_whole(source, length), 0);
     compare("tokens", text, 3, five, cut_whole(source, length, 5), 0);
@@ -214,8 +220,16 @@ static void *try_all(void *unused) {
     static char deep[4000], wide[40000] = "{a b}";
     for (int i = 0; i < 1000; i++) deep[2 * i] = '{', deep[2 * i + 1] = 'a', deep[2000 + i] = '}';
     memset(wide + 5, ' ', sizeof wide - 6);
-    const char *sources[] = {"{a}", "",  "{ a ) }", "# \xc3\xa9\n{ a(b: \"\\u00e9\") b }", "query($a: [T!]) { ...F }",
-                             deep,  wide};
+    const char *sources[] = {"{a}",
+                             "",
+                             "{ a ) }",
+                             "# \xc3\xa9\n{ a(b: \"\\u00e9\") b }",
+                             "query($a: [T!]) { ...F }",
+                             "[$a {b: \"\xc3\xa9\"}]",
+                             "[\"c\" 1.5]",
+                             "[ID!]!",
+                             deep,
+                             wide};
     for (size_t i = 0; i < sizeof sources / sizeof *sources; i++)
         try_source(sources[i], 200, UINT32_MAX), try_source(sources[i], FIRTHNAPKIN_MAX_DEPTH, 1);
     return unused;

@@ -19,8 +19,12 @@
 #define THREAD_LOCAL 1
 #endif
 
-/* The frames of this program between a look at the stack and the next. */
+/* The frames of this program between a look at the stack and the next. A sanitizer makes them larger. */
+#ifdef __SANITIZE_ADDRESS__
+enum { FRAMES = 8192 };
+#else
 enum { FRAMES = 4096 };
+#endif
 
 static __thread volatile char own[THREAD_LOCAL];
 
@@ -40,7 +44,7 @@ static size_t left_here(void) {
 
 static struct {
     pthread_t caller;
-    int parses, measures, messages, excerpts, cuts, canonicals;
+    int parses, values, types, measures, messages, excerpts, cuts, canonicals;
     /* Calls in another thread, those of them that got signals, and calls with too little stack. */
     int in_threads, with_signals, narrow;
 } seen;
@@ -116,6 +120,24 @@ static uint32_t seen_parse_complexities(const uint8_t *source, size_t length, co
                                           texts_length, complexities, complexities_capacity, complexities_length, error);
 }
 
+static uint32_t seen_parse_value(const uint8_t *source, size_t length, uint32_t constant, const firthnapkin_limits *limits,
+                                 firthnapkin_node *nodes, size_t nodes_capacity, size_t *nodes_length, uint8_t *texts,
+                                 size_t texts_capacity, size_t *texts_length, firthnapkin_error *error) {
+    seen.values++;
+    look(limits->depth);
+    return firthnapkin_parse_value(source, length, constant, limits, nodes, nodes_capacity, nodes_length, texts, texts_capacity,
+                                   texts_length, error);
+}
+
+static uint32_t seen_parse_type(const uint8_t *source, size_t length, const firthnapkin_limits *limits, firthnapkin_node *nodes,
+                                size_t nodes_capacity, size_t *nodes_length, uint8_t *texts, size_t texts_capacity,
+                                size_t *texts_length, firthnapkin_error *error) {
+    seen.types++;
+    look(limits->depth);
+    return firthnapkin_parse_type(source, length, limits, nodes, nodes_capacity, nodes_length, texts, texts_capacity,
+                                  texts_length, error);
+}
+
 static uint32_t seen_message(const uint8_t *source, size_t length, const firthnapkin_error *error, uint8_t *buffer,
                              size_t buffer_capacity, size_t *buffer_length) {
     seen.messages++;
@@ -155,6 +177,8 @@ static int get_attributes(pthread_t thread, pthread_attr_t *attributes) {
 /* The headers make their calls by these. */
 #define firthnapkin_parse seen_parse
 #define firthnapkin_parse_complexities seen_parse_complexities
+#define firthnapkin_parse_value seen_parse_value
+#define firthnapkin_parse_type seen_parse_type
 #define firthnapkin_message seen_message
 #define firthnapkin_excerpt seen_excerpt
 #define firthnapkin_tokens seen_tokens
@@ -195,6 +219,40 @@ static const parse_row PARSES[] = {
     {"query a " THOUSAND("b"), 200, UINT32_MAX, FIRTHNAPKIN_SYNTAX_ERROR, 1, 2},
     {THOUSAND(DEEPER) THOUSAND(CLOSING), 1000, UINT32_MAX, FIRTHNAPKIN_OK, 1, 0},
     {THOUSAND(DEEPER) "{b", 1000, UINT32_MAX, FIRTHNAPKIN_TOO_DEEP, 1, 1},
+};
+
+/* A source that is parsed as a value or as a type, and how many nodes and bytes of texts it has. */
+typedef struct {
+    parsed_as as;
+    const char *source;
+    uint32_t depth, tokens, status;
+    size_t nodes, texts;
+    int calls;
+} literal_row;
+
+#define ANY UINT32_MAX
+
+static const literal_row LITERALS[] = {
+    {AS_VALUE, "[1 $a]", 200, ANY, FIRTHNAPKIN_OK, 3, 0, 1},
+    {AS_CONSTANT, "[1 $a]", 200, ANY, FIRTHNAPKIN_SYNTAX_ERROR, 0, 14, 1},
+    {AS_CONSTANT, "[1 \"b\"]", 200, ANY, FIRTHNAPKIN_OK, 3, 1, 1},
+    {AS_DOCUMENT, "{a}", 200, ANY, FIRTHNAPKIN_OK, 2, 0, 1},
+    {AS_VALUE, "{a}", 200, ANY, FIRTHNAPKIN_SYNTAX_ERROR, 0, 14, 1},
+    {AS_VALUE, "[1 2]", 200, 4, FIRTHNAPKIN_OK, 3, 0, 1},
+    {AS_VALUE, "[1 2]", 200, 3, FIRTHNAPKIN_TOO_MANY_TOKENS, 0, 15, 1},
+    {AS_VALUE, "[[1]]", 1, ANY, FIRTHNAPKIN_TOO_DEEP, 0, 17, 1},
+    {AS_VALUE, "\xff", 200, ANY, FIRTHNAPKIN_NOT_UTF8, 0, 0, 1},
+    {AS_VALUE, "1", 1001, ANY, FIRTHNAPKIN_INVALID_LIMIT, 0, 0, 1},
+    {AS_TYPE, "[ ID! ]", 200, ANY, FIRTHNAPKIN_OK, 1, 5, 1},
+    {AS_TYPE, "[ID", 200, ANY, FIRTHNAPKIN_SYNTAX_ERROR, 0, 23, 1},
+    {AS_TYPE, "T!!", 200, 2, FIRTHNAPKIN_TOO_MANY_TOKENS, 0, 15, 1},
+    {AS_TYPE, "[[T]]", 1, ANY, FIRTHNAPKIN_TOO_DEEP, 0, 17, 1},
+    {AS_TYPE, "\xff", 200, ANY, FIRTHNAPKIN_NOT_UTF8, 0, 0, 1},
+    {AS_TYPE, "T", 1001, ANY, FIRTHNAPKIN_INVALID_LIMIT, 0, 0, 1},
+    {AS_VALUE, "[" THOUSAND("1 ") "]", 200, ANY, FIRTHNAPKIN_OK, 1001, 0, 2},
+    {AS_CONSTANT, "\"" THOUSAND("c") "\"", 200, ANY, FIRTHNAPKIN_OK, 1, 1000, 2},
+    {AS_VALUE, THOUSAND("[") THOUSAND("]"), 1000, ANY, FIRTHNAPKIN_OK, 1000, 0, 2},
+    {AS_TYPE, THOUSAND("[") "T" THOUSAND("]"), 1000, ANY, FIRTHNAPKIN_OK, 1, 2001, 2},
 };
 
 typedef struct {
@@ -238,7 +296,8 @@ static void begin(void) {
 static void check_seen(const char *where, const char *source, threads wanted, const sigset_t *before) {
     sigset_t after;
     pthread_sigmask(SIG_SETMASK, NULL, &after);
-    int calls = seen.parses + seen.measures + seen.messages + seen.excerpts + seen.cuts + seen.canonicals;
+    int calls =
+        seen.parses + seen.values + seen.types + seen.measures + seen.messages + seen.excerpts + seen.cuts + seen.canonicals;
     check(seen.narrow == 0, "%s: %d calls with too little stack, for %.20s", where, seen.narrow, source);
     check(seen.with_signals == 0, "%s: %d calls with signals, for %.20s", where, seen.with_signals, source);
     check(wanted == SOME || seen.in_threads == (wanted == ALL ? calls : 0), "%s: %d of %d calls in threads, for %.20s", where,
@@ -259,6 +318,23 @@ static void parse_rows(const char *where, threads wanted, const sigset_t *mask) 
         check(w.status == row.status, "%s: %u is returned for %.20s", where, w.status, row.source);
         check(seen.parses == row.parses && seen.messages == row.messages, "%s: %d parses and %d messages, for %.20s", where,
               seen.parses, seen.messages, row.source);
+        check_seen(where, row.source, wanted, mask);
+        give_back(&w);
+    }
+}
+
+static void literal_rows(const char *where, threads wanted, const sigset_t *mask) {
+    for (size_t i = 0; i < sizeof LITERALS / sizeof *LITERALS; i++) {
+        literal_row row = LITERALS[i];
+        firthnapkin_limits limits = {.depth = row.depth, .tokens = row.tokens};
+        begin();
+        whole w = whole_as(row.as, (const uint8_t *)row.source, strlen(row.source), &limits);
+        check(w.status == row.status && w.nodes_count == row.nodes && w.texts_count == row.texts,
+              "%s: %u, %zu nodes and %zu bytes for %.20s", where, w.status, w.nodes_count, w.texts_count, row.source);
+        int is_document = row.as == AS_DOCUMENT, is_type = row.as == AS_TYPE;
+        check(seen.parses == is_document * row.calls && seen.types == is_type * row.calls
+                  && seen.values == !is_document * !is_type * row.calls && seen.messages == has_error(row.status),
+              "%s: %d, %d and %d calls, for %.20s", where, seen.parses, seen.values, seen.types, row.source);
         check_seen(where, row.source, wanted, mask);
         give_back(&w);
     }
@@ -423,6 +499,8 @@ static void words_rows(const char *where) {
     has_words(where, parse_whole(source, 5, &shallow), FIRTHNAPKIN_TOO_DEEP, 0, "Too deeply nested");
     has_words(where, parse_whole(source, 5, &unknown), FIRTHNAPKIN_INVALID_LIMIT, 0, "");
     has_words(where, parsed((parse_row){"{ a )", 200, UINT32_MAX, 0, 0, 0}), FIRTHNAPKIN_SYNTAX_ERROR, 4, "Unexpected \")\"");
+    has_words(where, whole_as(AS_CONSTANT, (const uint8_t *)"{a: $b}", 7, &(firthnapkin_limits)FIRTHNAPKIN_LIMITS_DEFAULT),
+              FIRTHNAPKIN_SYNTAX_ERROR, 4, "Unexpected \"$\"");
     has_words(where, cut_whole(source, 7, 2), FIRTHNAPKIN_TOO_MANY_TOKENS, 4, "Too many tokens");
     has_words(where, cut_whole(source, 7, 3), FIRTHNAPKIN_SYNTAX_ERROR, 6, "Unknown character \"?\"");
     has_words(where, canonical_whole(source, 7), FIRTHNAPKIN_SYNTAX_ERROR, 6, "Unknown character \"?\"");
@@ -467,6 +545,7 @@ static void all_rows(const char *where, threads wanted) {
     sigset_t mask;
     pthread_sigmask(SIG_SETMASK, NULL, &mask);
     parse_rows(where, wanted, &mask);
+    literal_rows(where, wanted, &mask);
     measure_rows(where, wanted, &mask);
     complexity_rows(where, wanted, &mask);
     size_rows(where);

@@ -9,6 +9,9 @@
  *     canonical   the canonical text, or an error
  *     error       null, or an error: kind, detail, character, message, start, end, line, column, excerpt
  *     within      the same of a parse within a depth of 3 and 20 tokens
+ *     value       an error, or what the text is as a value: nodes, value
+ *     constant    an error of the text as a value without variables, within that depth and tokens; otherwise null
+ *     type        an error, or what the text is as a type: nodes, type
  *     document    null if there is an error, otherwise nodes, definitions, operations, fragments
  *
  * A position is [index, line, column, byte]. With --utf-16 index and column count UTF-16 units, as Node's package does. Of a source
@@ -336,14 +339,19 @@ static void definitions(const parsed *d, const char *key, int are_fragments, wri
     putchar(']');
 }
 
-static void document(const parsed *d) {
+static void nodes(const parsed *d) {
     printf("{\"nodes\":[");
     size_t first = first_written(d->length, d->count);
     for (size_t i = first; i < d->count; i++) {
         if (i > first) putchar(',');
         node_of(d, i);
     }
-    printf("],\"definitions\":");
+    putchar(']');
+}
+
+static void document(const parsed *d) {
+    nodes(d);
+    printf(",\"definitions\":");
     indexes(d, 0, d->count);
     definitions(d, "operations", 0, operation);
     definitions(d, "fragments", 1, fragment);
@@ -364,6 +372,43 @@ static uint32_t refused(const uint8_t *source, size_t length, const firthnapkin_
     return status;
 }
 
+/* The text as a value or as a type. */
+static void literal(const uint8_t *source, size_t length, int is_type) {
+    const firthnapkin_limits limits = FIRTHNAPKIN_LIMITS_DEFAULT;
+    parsed d = {.source = source, .length = length};
+    size_t texts;
+    d.nodes = room(length, sizeof *d.nodes);
+    d.texts = room(length, 1);
+    d.status =
+        is_type
+            ? firthnapkin_parse_type(source, length, &limits, d.nodes, length, &d.count, d.texts, length, &texts, &d.error)
+            : firthnapkin_parse_value(source, length, 0, &limits, d.nodes, length, &d.count, d.texts, length, &texts, &d.error);
+    if (d.status != FIRTHNAPKIN_OK) {
+        error_of(source, length, &d.error);
+    } else {
+        nodes(&d);
+        printf(is_type ? ",\"type\":" : ",\"value\":");
+        if (is_type)
+            meaning_of(&d, d.nodes);
+        else
+            value_of(&d, 0);
+        putchar('}');
+    }
+    free(d.nodes);
+    free(d.texts);
+}
+
+/* The error of a constant within limits, or null. */
+static void refused_constant(const uint8_t *source, size_t length, const firthnapkin_limits *limits) {
+    size_t nodes, texts;
+    firthnapkin_error error;
+    if (firthnapkin_parse_value(source, length, 1, limits, NULL, 0, &nodes, NULL, 0, &texts, &error)
+        == FIRTHNAPKIN_BUFFER_TOO_SMALL)
+        printf("null");
+    else
+        error_of(source, length, &error);
+}
+
 static void line_of(const uint8_t *source, size_t length) {
     const firthnapkin_limits limits = FIRTHNAPKIN_LIMITS_DEFAULT, few = {.depth = 3, .tokens = 20};
     printf("{\"tokens\":");
@@ -374,6 +419,12 @@ static void line_of(const uint8_t *source, size_t length) {
     uint32_t status = refused(source, length, &limits);
     printf(",\"within\":");
     refused(source, length, &few);
+    printf(",\"value\":");
+    literal(source, length, 0);
+    printf(",\"constant\":");
+    refused_constant(source, length, &few);
+    printf(",\"type\":");
+    literal(source, length, 1);
     printf(",\"document\":");
     if (status == FIRTHNAPKIN_BUFFER_TOO_SMALL) {
         parsed d = {.source = source, .length = length};

@@ -56,6 +56,17 @@ int main() {
     status = firthnapkin_canonical(bytes(source), source.size(), buffer.data(), buffer.size(), &needed, &error);
     check(status == FIRTHNAPKIN_OK && std::string(buffer.begin(), buffer.begin() + needed) == "query Q{a(b:-7)}",
           "a canonical text");
+    const std::string value = "[1 $a]", type = "[ ID! ]";
+    status = firthnapkin_parse_value(bytes(value), value.size(), 0, &limits, nodes.data(), nodes.size(), &nodes_length,
+                                     texts.data(), texts.size(), &texts_length, &error);
+    check(status == FIRTHNAPKIN_OK && nodes_length == 3 && nodes[2].kind == FIRTHNAPKIN_VARIABLE, "a value's nodes");
+    status = firthnapkin_parse_value(bytes(value), value.size(), 1, &limits, nodes.data(), nodes.size(), &nodes_length,
+                                     texts.data(), texts.size(), &texts_length, &error);
+    check(status == FIRTHNAPKIN_SYNTAX_ERROR && error.start.byte == 3, "a variable in a constant");
+    status = firthnapkin_parse_type(bytes(type), type.size(), &limits, nodes.data(), nodes.size(), &nodes_length, texts.data(),
+                                    texts.size(), &texts_length, &error);
+    check(status == FIRTHNAPKIN_OK && nodes_length == 1 && std::string(texts.begin(), texts.begin() + texts_length) == "[ID!]",
+          "a type without spaces");
     check(firthnapkin_version() == FIRTHNAPKIN_VERSION, "the number of the interface");
     std::printf("%ld passed, %ld failed\n", passed, failed);
     return failed != 0;

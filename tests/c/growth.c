@@ -1,5 +1,5 @@
-/* One call on the text of standard input: growth parse, few, complexities, message, excerpt, count, tokens, or canonical; few is a
- * parse of no more than ten tokens, and the error that a message and an excerpt are given is one at the source's end. Without a word it makes none. The
+/* One call on the text of standard input: growth parse, few, complexities, value, type, message, excerpt, count, tokens, or canonical;
+ * few is a parse of no more than ten tokens, and the error that a message and an excerpt are given is one at the source's end. Without a word it makes none. The
  * first line that is written says that the call comes now, the second what it returns. */
 #include "../../include/firthnapkin.h"
 #include <stdio.h>
@@ -42,6 +42,12 @@ int main(int argc, char **argv) {
     else if (strcmp(argv[1], "complexities") == 0)
         status = firthnapkin_parse_complexities(source, length, &limits, nodes, length, &nodes_length, texts, length,
                                                 &texts_length, complexities, length, &complexities_length, &error);
+    else if (strcmp(argv[1], "value") == 0)
+        status = firthnapkin_parse_value(source, length, 0, &limits, nodes, length, &nodes_length, texts, length, &texts_length,
+                                         &error);
+    else if (strcmp(argv[1], "type") == 0)
+        status =
+            firthnapkin_parse_type(source, length, &limits, nodes, length, &nodes_length, texts, length, &texts_length, &error);
     else if (strcmp(argv[1], "message") == 0)
         status = firthnapkin_message(source, length, &end, texts, 2 * length, &texts_length);
     else if (strcmp(argv[1], "excerpt") == 0)

@@ -60,6 +60,30 @@ static answer parse(const char *source) {
     return a;
 }
 
+static answer parse_value_as(const char *source, uint32_t constant) {
+    answer a = {.nodes_length = 1, .texts_length = 1};
+    firthnapkin_error error;
+    a.status = firthnapkin_parse_value((const uint8_t *)source, strlen(source), constant, &DEFAULT, nodes, 4096,
+                                       &a.nodes_length, words, 4096, &a.texts_length, &error);
+    return a;
+}
+
+static answer parse_value(const char *source) {
+    return parse_value_as(source, 0);
+}
+
+static answer parse_constant(const char *source) {
+    return parse_value_as(source, 1);
+}
+
+static answer parse_type(const char *source) {
+    answer a = {.nodes_length = 1, .texts_length = 1};
+    firthnapkin_error error;
+    a.status = firthnapkin_parse_type((const uint8_t *)source, strlen(source), &DEFAULT, nodes, 4096, &a.nodes_length, words,
+                                      4096, &a.texts_length, &error);
+    return a;
+}
+
 /* With the number of operations among the lengths. */
 static answer parse_complexities(const char *source) {
     static firthnapkin_complexity complexities[64];
@@ -139,6 +163,23 @@ static answer whole_parse_of_few(const char *source) {
     static const firthnapkin_limits few = {.depth = 200, .tokens = 20};
     whole w = parse_whole((const uint8_t *)source, strlen(source), &few);
     return answer_of(w, w.nodes_count);
+}
+
+static answer whole_parsed_as(parsed_as as, const char *source) {
+    whole w = whole_as(as, (const uint8_t *)source, strlen(source), &DEFAULT);
+    return answer_of(w, w.nodes_count);
+}
+
+static answer whole_value(const char *source) {
+    return whole_parsed_as(AS_VALUE, source);
+}
+
+static answer whole_constant(const char *source) {
+    return whole_parsed_as(AS_CONSTANT, source);
+}
+
+static answer whole_type(const char *source) {
+    return whole_parsed_as(AS_TYPE, source);
 }
 
 /* With a limit that most operations keep, and with one that none with a field keeps. */
@@ -260,6 +301,13 @@ static void takes_little(void) {
     asks(parse, "query($v: [T]){a}", 0);
     asks(parse, "query($v: [T!]){a}", 0);
     asks(parse, "query($v: [T]!){a}", 1);
+    /* A value takes none, and a type alone as many as in a document. */
+    asks(parse_value, "[{a: \"b\"} 1.5 $c]", 0);
+    asks(parse_constant, "[{a: \"b\"} 1.5]", 0);
+    asks(parse_type, "T!", 0);
+    asks(parse_type, "[T]", 0);
+    asks(parse_type, "[T!]", 0);
+    asks(parse_type, "[T]!", 1);
     /* A check has no nodes, and an array for many operations alone. It parses again where there are more than it expects. */
     asks(checked, SIXTY_FOUR, 0);
     asks(checked, SIXTY_FOUR "{a}", 0);
@@ -294,6 +342,13 @@ int main(void) {
         LONG_ERROR,
         /* A type for which memory is asked, in an operation that can be past a limit. */
         "query($v: [T]!) { a b }",
+        /* Values and types, and what is none. */
+        "{a: [1, $b, \"c\"]} # \xc3\xa9",
+        "# \xc3\xa9\n[\"\"\"\n  \xc3\xa9\n\"\"\" 1.5 -99999999999 E]",
+        "[[T!]!]! # \xc3\xa9",
+        "[[[[[[[[T!]!]!]!]!]!]!]!]!",
+        "# \xc3\xa9\n[[T!]!]! )",
+        "[1 # \xc3\xa9",
         /* More operations than a check has room for at first. */
         SIXTY_FOUR EIGHT,
         HUNDRED,
@@ -302,6 +357,9 @@ int main(void) {
     for (size_t i = 0; i < sizeof sources / sizeof *sources; i++) {
         each(parse, sources[i]);
         each(parse_complexities, sources[i]);
+        each(parse_value, sources[i]);
+        each(parse_constant, sources[i]);
+        each(parse_type, sources[i]);
         each(message, sources[i]);
         each(excerpt, sources[i]);
         each(count, sources[i]);
@@ -309,6 +367,9 @@ int main(void) {
         each(canonical, sources[i]);
         each(whole_parse, sources[i]);
         each(whole_parse_of_few, sources[i]);
+        each(whole_value, sources[i]);
+        each(whole_constant, sources[i]);
+        each(whole_type, sources[i]);
         each(whole_measured, sources[i]);
         each(whole_measured_of_none, sources[i]);
         each(whole_complexities, sources[i]);

@@ -30,7 +30,7 @@ static void drop(buffers *b) {
     free(b->complexities);
 }
 
-/* Makes each call, and returns what a parse does. */
+/* Makes each call, and returns what a parse does, or a parse of a value or of a type where the text is one. */
 static uint32_t call_each(buffers *b) {
     firthnapkin_limits limits = FIRTHNAPKIN_LIMITS_DEFAULT;
     limits.depth = FIRTHNAPKIN_MAX_DEPTH;
@@ -43,12 +43,16 @@ static uint32_t call_each(buffers *b) {
     firthnapkin_parse(b->source, b->length, &limits, NULL, 0, &b->nodes_length, NULL, 0, &b->texts_length, &error);
     firthnapkin_parse_complexities(b->source, b->length, &limits, b->nodes, b->length, &b->nodes_length, b->texts, b->length,
                                    &b->texts_length, b->complexities, b->length, &b->complexities_length, &error);
+    uint32_t of_value = firthnapkin_parse_value(b->source, b->length, 0, &limits, b->nodes, b->length, &b->nodes_length,
+                                                b->texts, b->length, &b->texts_length, &error);
+    uint32_t of_type = firthnapkin_parse_type(b->source, b->length, &limits, b->nodes, b->length, &b->nodes_length, b->texts,
+                                              b->length, &b->texts_length, &error);
     firthnapkin_message(b->source, b->length, &end, b->texts, 2 * b->length, &b->texts_length);
     firthnapkin_excerpt(b->source, b->length, &end, b->texts, 2 * b->length, &b->texts_length);
     firthnapkin_count(b->source, b->length, UINT32_MAX, &error);
     firthnapkin_tokens(b->source, b->length, UINT32_MAX, b->tokens, b->length + 1, &b->nodes_length, &error);
     firthnapkin_canonical(b->source, b->length, b->texts, 2 * b->length, &b->texts_length, &error);
-    return status;
+    return of_value == FIRTHNAPKIN_OK || of_type == FIRTHNAPKIN_OK ? FIRTHNAPKIN_OK : status;
 }
 
 int main(int argc, char **argv) {

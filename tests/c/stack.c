@@ -64,7 +64,39 @@ static const shape shapes[] = {
     {"objects around lists", "query($a:T=", "{k:", "", "[", "null", "]", "", "}", "){a}", 1},
 };
 
-enum { SHAPES = sizeof shapes / sizeof *shapes };
+/* Sources that are one value, and those that are one type. */
+static const shape values[] = {
+    SAME("a value, lists", "", "[", "1", "]", "", 1),
+    SAME("a value, lists after others", "", "[1[2]\"c\"", "$v", "]", "", 1),
+    SAME("a value, objects", "", "{k:", "1", "}", "", 1),
+    SAME("a value, objects after others", "", "{j:[]k:", "E", "}", "", 1),
+    SAME("a value, lists and objects", "", "[{k:", "\"\"\"\n x\n\"\"\"", "}]", "", 2),
+    {"a value, lists around objects", "", "[", "", "{k:", "\"\\u00e9\"", "}", "", "]", "", 1},
+};
+
+static const shape constants[] = {
+    SAME("a constant, lists", "", "[", "1", "]", "", 1),
+    SAME("a constant, objects", "", "{k:", "1", "}", "", 1),
+    {"a constant, objects around lists", "", "{k:", "", "[", "null", "]", "", "}", "", 1},
+};
+
+static const shape types[] = {
+    SAME("a type, lists", "", "[", "T", "]", "", 1),
+    SAME("a type, lists that aren't null", "", "[", "T!", "]!", "", 1),
+};
+
+/* The shapes of each kind of source. */
+enum { FLAT, DOCUMENTS, VALUES, CONSTANTS, TYPES, KINDS };
+
+static const struct {
+    const shape *shapes;
+    size_t count;
+} made[KINDS] = {
+    [DOCUMENTS] = {shapes, sizeof shapes / sizeof *shapes},
+    [VALUES] = {values, sizeof values / sizeof *values},
+    [CONSTANTS] = {constants, sizeof constants / sizeof *constants},
+    [TYPES] = {types, sizeof types / sizeof *types},
+};
 
 static char source[1 << 17];
 static firthnapkin_node nodes[CAPACITY];
@@ -86,6 +118,21 @@ static void parse_complexities(size_t length) {
     size_t n, t, c;
     status = firthnapkin_parse_complexities((uint8_t *)source, length, &limits, nodes, CAPACITY, &n, texts, CAPACITY, &t,
                                             complexities, 4, &c, &error);
+}
+
+static void parse_value(size_t length) {
+    size_t n, t;
+    status = firthnapkin_parse_value((uint8_t *)source, length, 0, &limits, nodes, CAPACITY, &n, texts, CAPACITY, &t, &error);
+}
+
+static void parse_constant(size_t length) {
+    size_t n, t;
+    status = firthnapkin_parse_value((uint8_t *)source, length, 1, &limits, nodes, CAPACITY, &n, texts, CAPACITY, &t, &error);
+}
+
+static void parse_type(size_t length) {
+    size_t n, t;
+    status = firthnapkin_parse_type((uint8_t *)source, length, &limits, nodes, CAPACITY, &n, texts, CAPACITY, &t, &error);
 }
 
 static void check_alone(size_t length) {
@@ -123,17 +170,25 @@ static void excerpt(size_t length) {
     status = firthnapkin_excerpt((uint8_t *)source, length, &found, texts, sizeof texts, &n);
 }
 
-/* A call, and whether it nests. What doesn't takes FIRTHNAPKIN_STACK_SIZE(0), as each call does whose status is that of an error
- * before its first token. */
+/* A call, and the kind of the sources that nest in it. What doesn't nest takes FIRTHNAPKIN_STACK_SIZE(0), as each call does whose
+ * status is that of an error before its first token. */
 static const struct {
     const char *name;
     void (*run)(size_t);
     int nests;
-} calls[] = {{"parse", parse, 1},         {"parse_complexities", parse_complexities, 1},
-             {"a check", check_alone, 1}, {"a check of complexities", check_complexities, 1},
-             {"count", count, 0},         {"tokens", cut, 0},
-             {"canonical", canonical, 0}, {"message", message, 0},
-             {"excerpt", excerpt, 0}};
+} calls[] = {{"parse", parse, DOCUMENTS},
+             {"parse_complexities", parse_complexities, DOCUMENTS},
+             {"a check", check_alone, DOCUMENTS},
+             {"a check of complexities", check_complexities, DOCUMENTS},
+             {"a value", parse_value, VALUES},
+             {"a constant value", parse_value, CONSTANTS},
+             {"a constant", parse_constant, CONSTANTS},
+             {"a type", parse_type, TYPES},
+             {"count", count, FLAT},
+             {"tokens", cut, FLAT},
+             {"canonical", canonical, FLAT},
+             {"message", message, FLAT},
+             {"excerpt", excerpt, FLAT}};
 
 enum { CALLS = sizeof calls / sizeof *calls, MESSAGE = CALLS - 2 };
 
@@ -254,18 +309,23 @@ static void try_errors(void) {
     }
 }
 
-int main(void) {
-    for (int i = 0; i < SHAPES; i++)
-        for (int ending = 0; ending < ENDINGS; ending++)
-            for (int call = 0; call < MESSAGE; call++) {
-                if (calls[call].nests) {
-                    try_nested(&shapes[i], ending, call);
-                    if (ending != WHOLE && calls[call].run == parse) try_words(shapes[i].name);
-                } else if (ending == WHOLE) {
-                    nest(&shapes[i], MANY, ending);
-                    try_flat(shapes[i].name, call);
-                }
+/* Each call that reads sources of this kind, and those that don't nest, on one of these sources. */
+static void try_shape(const shape *it, int kind) {
+    for (int ending = 0; ending < ENDINGS; ending++)
+        for (int call = 0; call < MESSAGE; call++) {
+            if (calls[call].nests == kind) {
+                try_nested(it, ending, call);
+                if (ending != WHOLE && calls[call].run == parse) try_words(it->name);
+            } else if (ending == WHOLE && calls[call].nests == FLAT) {
+                nest(it, MANY, ending);
+                try_flat(it->name, call);
             }
+        }
+}
+
+int main(void) {
+    for (int kind = DOCUMENTS; kind < KINDS; kind++)
+        for (size_t i = 0; i < made[kind].count; i++) try_shape(&made[kind].shapes[i], kind);
     try_errors();
     printf("stack: %zu bytes at most for %d levels, %.0f a level, and %zu for what doesn't nest\n", most, MANY, most_level,
            most_flat);

@@ -65,6 +65,79 @@ static const row PARSES[] = {
     {"{a b}", WITHIN(1, 4), 3, FIRTHNAPKIN_OK, NO_ERROR},
 };
 
+static const row VALUES[] = {
+    /* The same for sources that are a value. */
+    {"[\xff", WITHIN(1001, 0), 0, FIRTHNAPKIN_INVALID_LIMIT, NO_ERROR},
+    {"[ ? 1", UNKNOWN, 0, FIRTHNAPKIN_INVALID_LIMIT, NO_ERROR},
+    {"1", WITHIN(1001, UINT32_MAX), 0, FIRTHNAPKIN_INVALID_LIMIT, NO_ERROR},
+    {"1 2 \xff", WITHIN(200, 1), 0, FIRTHNAPKIN_NOT_UTF8, NO_ERROR},
+    {"[ ? \xff", ANY, MOST, FIRTHNAPKIN_NOT_UTF8, NO_ERROR},
+    {"[[1]] \xff", WITHIN(1, 99), MOST, FIRTHNAPKIN_NOT_UTF8, NO_ERROR},
+    {"] \xff", ANY, MOST, FIRTHNAPKIN_NOT_UTF8, NO_ERROR},
+    {"1#\xff", ANY, 0, FIRTHNAPKIN_NOT_UTF8, NO_ERROR},
+    {"[[1]] ) ? \xff", WITHIN(1, 3), 0, FIRTHNAPKIN_NOT_UTF8, NO_ERROR},
+    {"[ 1 2 ?", WITHIN(200, 2), MOST, FIRTHNAPKIN_TOO_MANY_TOKENS, 4},
+    {"[ ? 1 2", WITHIN(200, 2), MOST, FIRTHNAPKIN_SYNTAX_ERROR, 2},
+    {"[ ? 1 2", WITHIN(200, 0), MOST, FIRTHNAPKIN_TOO_MANY_TOKENS, 0},
+    {"[[1]]", WITHIN(1, 2), MOST, FIRTHNAPKIN_TOO_MANY_TOKENS, 2},
+    {"] 1 2 3", WITHIN(200, 3), MOST, FIRTHNAPKIN_TOO_MANY_TOKENS, 6},
+    {"[1 2]", WITHIN(200, 3), 0, FIRTHNAPKIN_TOO_MANY_TOKENS, 4},
+    {"1 2", WITHIN(200, 1), 0, FIRTHNAPKIN_TOO_MANY_TOKENS, 2},
+    {"[[1]] ) ?", WITHIN(1, 5), 0, FIRTHNAPKIN_TOO_MANY_TOKENS, 6},
+    {"[[1]] ?", WITHIN(1, UINT32_MAX), MOST, FIRTHNAPKIN_SYNTAX_ERROR, 6},
+    {"[[1]] ) ?", WITHIN(1, 6), 0, FIRTHNAPKIN_SYNTAX_ERROR, 8},
+    {"1 2 ?", ANY, MOST, FIRTHNAPKIN_SYNTAX_ERROR, 4},
+    {"[[)]", WITHIN(1, UINT32_MAX), MOST, FIRTHNAPKIN_TOO_DEEP, 1},
+    {"[)[[1]]", WITHIN(1, UINT32_MAX), MOST, FIRTHNAPKIN_SYNTAX_ERROR, 1},
+    {"[[1", WITHIN(1, UINT32_MAX), MOST, FIRTHNAPKIN_TOO_DEEP, 1},
+    {"[1]", WITHIN(0, UINT32_MAX), MOST, FIRTHNAPKIN_TOO_DEEP, 0},
+    {"1 [1]", WITHIN(0, UINT32_MAX), MOST, FIRTHNAPKIN_SYNTAX_ERROR, 2},
+    {"# [", WITHIN(0, 0), MOST, FIRTHNAPKIN_SYNTAX_ERROR, 3},
+    {"[[1]]", WITHIN(1, UINT32_MAX), 0, FIRTHNAPKIN_TOO_DEEP, 1},
+    {"[ ) ]", ANY, 0, FIRTHNAPKIN_SYNTAX_ERROR, 2},
+    {"[1 2]", ANY, 2, FIRTHNAPKIN_BUFFER_TOO_SMALL, NO_ERROR},
+    {"\"a b\"", ANY, 2, FIRTHNAPKIN_BUFFER_TOO_SMALL, NO_ERROR},
+    {"[1 2]", WITHIN(1, 4), 3, FIRTHNAPKIN_OK, NO_ERROR},
+    {"$a", ANY, 1, FIRTHNAPKIN_OK, NO_ERROR},
+};
+
+/* A variable in a constant is an error where it begins. */
+static const row CONSTANTS[] = {
+    {"$a \xff", ANY, MOST, FIRTHNAPKIN_NOT_UTF8, NO_ERROR},
+    {"$a b", WITHIN(200, 1), MOST, FIRTHNAPKIN_TOO_MANY_TOKENS, 1},
+    {"$a ?", ANY, MOST, FIRTHNAPKIN_SYNTAX_ERROR, 3},
+    {"[$a [1]]", WITHIN(1, UINT32_MAX), MOST, FIRTHNAPKIN_SYNTAX_ERROR, 1},
+    {"[[$a]]", WITHIN(1, UINT32_MAX), MOST, FIRTHNAPKIN_TOO_DEEP, 1},
+    {"$a", ANY, 0, FIRTHNAPKIN_SYNTAX_ERROR, 0},
+    {"[1 2]", ANY, 2, FIRTHNAPKIN_BUFFER_TOO_SMALL, NO_ERROR},
+    {"[1 2]", ANY, 3, FIRTHNAPKIN_OK, NO_ERROR},
+};
+
+static const row TYPES[] = {
+    {"[\xff", WITHIN(1001, 0), 0, FIRTHNAPKIN_INVALID_LIMIT, NO_ERROR},
+    {"T", UNKNOWN, 0, FIRTHNAPKIN_INVALID_LIMIT, NO_ERROR},
+    {"T T \xff", WITHIN(200, 1), 0, FIRTHNAPKIN_NOT_UTF8, NO_ERROR},
+    {"[ ? \xff", ANY, MOST, FIRTHNAPKIN_NOT_UTF8, NO_ERROR},
+    {"[[T]] \xff", WITHIN(1, 99), MOST, FIRTHNAPKIN_NOT_UTF8, NO_ERROR},
+    {"T#\xff", ANY, 0, FIRTHNAPKIN_NOT_UTF8, NO_ERROR},
+    {"[ T ] ?", WITHIN(200, 2), MOST, FIRTHNAPKIN_TOO_MANY_TOKENS, 4},
+    {"[ ? T ]", WITHIN(200, 2), MOST, FIRTHNAPKIN_SYNTAX_ERROR, 2},
+    {"[[T]]", WITHIN(1, 2), MOST, FIRTHNAPKIN_TOO_MANY_TOKENS, 2},
+    {"! T T", WITHIN(200, 2), MOST, FIRTHNAPKIN_TOO_MANY_TOKENS, 4},
+    {"[T]", WITHIN(200, 2), 0, FIRTHNAPKIN_TOO_MANY_TOKENS, 2},
+    {"T!!", WITHIN(200, 2), 0, FIRTHNAPKIN_TOO_MANY_TOKENS, 2},
+    {"[[T]] ?", WITHIN(1, UINT32_MAX), MOST, FIRTHNAPKIN_SYNTAX_ERROR, 6},
+    {"T T ?", ANY, MOST, FIRTHNAPKIN_SYNTAX_ERROR, 4},
+    {"[[!", WITHIN(1, UINT32_MAX), MOST, FIRTHNAPKIN_TOO_DEEP, 1},
+    {"[![[T]]", WITHIN(1, UINT32_MAX), MOST, FIRTHNAPKIN_SYNTAX_ERROR, 1},
+    {"T [T]", WITHIN(0, UINT32_MAX), MOST, FIRTHNAPKIN_SYNTAX_ERROR, 2},
+    {"# T", WITHIN(0, 0), MOST, FIRTHNAPKIN_SYNTAX_ERROR, 3},
+    {"[T", ANY, 0, FIRTHNAPKIN_SYNTAX_ERROR, 2},
+    {"T", ANY, 0, FIRTHNAPKIN_BUFFER_TOO_SMALL, NO_ERROR},
+    {"[ID!]", ANY, 4, FIRTHNAPKIN_BUFFER_TOO_SMALL, NO_ERROR},
+    {"[ ID ! ]", WITHIN(1, 4), 5, FIRTHNAPKIN_OK, NO_ERROR},
+};
+
 /* A spread that can't be expanded, in what isn't UTF-8, isn't a document or is within no limit, and in an array that is too small. */
 static const row SPREADS[] = {
     {"{...A} \xff", ANY, MOST, FIRTHNAPKIN_NOT_UTF8, NO_ERROR},
@@ -124,6 +197,21 @@ static uint32_t parse(const uint8_t *source, size_t length, const row *r, firthn
 static uint32_t parse_complexities(const uint8_t *source, size_t length, const row *r, firthnapkin_error *error) {
     return firthnapkin_parse_complexities(source, length, &r->limits, nodes, r->capacity, &nodes_length, texts, r->capacity,
                                           &texts_length, complexities, r->capacity, &complexities_length, error);
+}
+
+static uint32_t parse_value(const uint8_t *source, size_t length, const row *r, firthnapkin_error *error) {
+    return firthnapkin_parse_value(source, length, 0, &r->limits, nodes, r->capacity, &nodes_length, texts, r->capacity,
+                                   &texts_length, error);
+}
+
+static uint32_t parse_constant(const uint8_t *source, size_t length, const row *r, firthnapkin_error *error) {
+    return firthnapkin_parse_value(source, length, 1, &r->limits, nodes, r->capacity, &nodes_length, texts, r->capacity,
+                                   &texts_length, error);
+}
+
+static uint32_t parse_type(const uint8_t *source, size_t length, const row *r, firthnapkin_error *error) {
+    return firthnapkin_parse_type(source, length, &r->limits, nodes, r->capacity, &nodes_length, texts, r->capacity,
+                                  &texts_length, error);
 }
 
 static uint32_t count(const uint8_t *source, size_t length, const row *r, firthnapkin_error *error) {
@@ -220,6 +308,9 @@ int main(void) {
     each("a parse", parse, PARSES, sizeof PARSES / sizeof *PARSES);
     each("a parse with complexities", parse_complexities, PARSES, sizeof PARSES / sizeof *PARSES);
     each("a parse with complexities", parse_complexities, SPREADS, sizeof SPREADS / sizeof *SPREADS);
+    each("a value", parse_value, VALUES, sizeof VALUES / sizeof *VALUES);
+    each("a constant", parse_constant, CONSTANTS, sizeof CONSTANTS / sizeof *CONSTANTS);
+    each("a type", parse_type, TYPES, sizeof TYPES / sizeof *TYPES);
     each("a count", count, COUNTS, sizeof COUNTS / sizeof *COUNTS);
     each("a cut", cut, CUTS, sizeof CUTS / sizeof *CUTS);
     each("a canonical text", canonical, CANONICALS, sizeof CANONICALS / sizeof *CANONICALS);

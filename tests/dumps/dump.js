@@ -128,6 +128,16 @@ const documentOf = (document) => ({
   fragments: document.fragments.map(fragment),
 });
 
+function valueAlone(text) {
+  const { node, value } = firthnapkin.parseValue(text);
+  return { nodes: lastOf(node.document).map(nodeOf), value: valueOf(value, node) };
+}
+
+function typeAlone(text) {
+  const { node, type } = firthnapkin.parseType(text);
+  return { nodes: lastOf(node.document).map(nodeOf), type };
+}
+
 function lineOf(text) {
   let document = null;
   const error = orError(() => {
@@ -143,6 +153,12 @@ function lineOf(text) {
     canonical: orError(() => firthnapkin.canonical(text)),
     error,
     within,
+    value: orError(() => valueAlone(text)),
+    constant: orError(() => {
+      firthnapkin.parseValue(text, { constant: true, depth: 3, maxTokens: 20 });
+      return null;
+    }),
+    type: orError(() => typeAlone(text)),
     document: document && documentOf(document),
   };
 }

@@ -140,6 +140,16 @@ def document_of(document: package.Document) -> Dict[str, Any]:
     }
 
 
+def value_alone(text: str) -> Dict[str, Any]:
+    found = package.parse_value(text)
+    return {"nodes": [node_of(it) for it in last_of(found.document)], "value": value_of(found.value)}
+
+
+def type_alone(text: str) -> Dict[str, Any]:
+    found = package.parse_type(text)
+    return {"nodes": [node_of(it) for it in last_of(found.document)], "type": found.type}
+
+
 def line_of(text: str) -> Dict[str, Any]:
     document: Optional[package.Document] = None
     error = within = None
@@ -156,6 +166,9 @@ def line_of(text: str) -> Dict[str, Any]:
         "canonical": or_error(lambda: package.canonical(text)),
         "error": error,
         "within": within,
+        "value": or_error(lambda: value_alone(text)),
+        "constant": or_error(lambda: package.parse_value(text, constant=True, depth=3, max_tokens=20) and None),
+        "type": or_error(lambda: type_alone(text)),
         "document": document and document_of(document),
     }
 

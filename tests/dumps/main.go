@@ -225,20 +225,40 @@ func fragment(f firthnapkin.Fragment) any {
 		"selections", each(f.Selections(), selection))
 }
 
-func documentOf(d *firthnapkin.Document) any {
+func nodesOf(d *firthnapkin.Document) any {
 	first := len(d.Nodes) - len(lastOf(d.Nodes, d.Source))
 	nodes := []any{}
 	for i := first; i < len(d.Nodes); i++ {
 		nodes = append(nodes, nodeOf(d, i))
 	}
-	return object{"nodes", nodes, "definitions", each(d.Definitions(), func(i int) any { return i }),
+	return nodes
+}
+
+func valueAlone(text string) any {
+	found, err := firthnapkin.ParseValue(text, firthnapkin.DefaultLimits)
+	if err != nil {
+		return errorOf(err)
+	}
+	return object{"nodes", nodesOf(found.Document()), "value", valueOf(found.Value())}
+}
+
+func typeAlone(text string) any {
+	found, err := firthnapkin.ParseType(text, firthnapkin.DefaultLimits)
+	if err != nil {
+		return errorOf(err)
+	}
+	return object{"nodes", nodesOf(found.Document()), "type", found.Type()}
+}
+
+func documentOf(d *firthnapkin.Document) any {
+	return object{"nodes", nodesOf(d), "definitions", each(d.Definitions(), func(i int) any { return i }),
 		"operations", each(d.Operations(), operation), "fragments", each(d.Fragments(), fragment)}
 }
 
 func lineOf(text string) object {
 	few := firthnapkin.DefaultLimits
 	few.Depth, few.Tokens = 3, 20
-	var document, refused, within any
+	var document, refused, within, constant any
 	if found, err := firthnapkin.Parse(text); err != nil {
 		refused = errorOf(err)
 	} else {
@@ -247,7 +267,11 @@ func lineOf(text string) object {
 	if _, err := firthnapkin.ParseWithin(text, few); err != nil {
 		within = errorOf(err)
 	}
-	return object{"tokens", tokensOf(text), "canonical", canonicalOf(text), "error", refused, "within", within, "document", document}
+	if _, err := firthnapkin.ParseConstValue(text, few); err != nil {
+		constant = errorOf(err)
+	}
+	return object{"tokens", tokensOf(text), "canonical", canonicalOf(text), "error", refused, "within", within,
+		"value", valueAlone(text), "constant", constant, "type", typeAlone(text), "document", document}
 }
 
 func main() {

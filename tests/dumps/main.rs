@@ -234,6 +234,26 @@ fn document_of(document: &Document) -> String {
     )
 }
 
+fn value_alone(source: &str) -> String {
+    match firthnapkin::parse_value(source, Limits::default()) {
+        Err(error) => error_of(error, source),
+        Ok(found) => {
+            let nodes = array(last_of(found.document().nodes()).map(node_of));
+            format!(r#"{{"nodes":{nodes},"value":{}}}"#, value_of(found.value()))
+        }
+    }
+}
+
+fn type_alone(source: &str) -> String {
+    match firthnapkin::parse_type(source, Limits::default()) {
+        Err(error) => error_of(error, source),
+        Ok(found) => {
+            let nodes = array(last_of(found.document().nodes()).map(node_of));
+            format!(r#"{{"nodes":{nodes},"type":{}}}"#, quoted(found.as_str()))
+        }
+    }
+}
+
 fn line_of(source: &str) -> String {
     IS_LONG.store(source.len() > LONG, Relaxed);
     let few = Limits { depth: 3, tokens: 20, ..Limits::default() };
@@ -247,7 +267,11 @@ fn line_of(source: &str) -> String {
         Err(error) => error_of(error, source),
     };
     let tokens = tokens_of(source);
-    format!(r#"{{"tokens":{tokens},"canonical":{canonical},"error":{error},"within":{within},"document":{document}}}"#)
+    let constant = firthnapkin::parse_const_value(source, few).err().map_or("null".into(), |it| error_of(it, source));
+    let [value, kind] = [value_alone(source), type_alone(source)];
+    format!(
+        r#"{{"tokens":{tokens},"canonical":{canonical},"error":{error},"within":{within},"value":{value},"constant":{constant},"type":{kind},"document":{document}}}"#
+    )
 }
 
 fn main() {

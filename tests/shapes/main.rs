@@ -7,8 +7,8 @@
 //! scripts/shapes looks in the sources for one that isn't asked here.
 
 use firthnapkin::{
-    Argument, Directive, Document, Error, Field, Fragment, FragmentSpread, InlineFragment, Limits, List, Node, Object,
-    Operation, Selection, Token, Tokens, Value, VariableDefinition, MAX_DEPTH,
+    Argument, Directive, Document, Error, Field, Fragment, FragmentSpread, InlineFragment, Kind, Limits, List, Node,
+    Object, Operation, ParsedType, ParsedValue, Selection, Token, Tokens, Value, VariableDefinition, MAX_DEPTH,
 };
 use std::ffi::{c_int, c_long};
 use std::fmt::{Debug, Write as _};
@@ -213,6 +213,21 @@ fn ask_document(found: &mut Found, document: &Document) {
     found.ask("Node.==", &nodes, |it| one(it == it));
 }
 
+/// Asks the values of a document's arguments, and the types of its variables, each parsed alone.
+fn ask_literals(found: &mut Found, document: &Document, limits: Limits) {
+    let arguments = document.nodes().filter(|it| it.kind() == Kind::Argument);
+    let values: Vec<Node> = arguments.filter_map(|it| it.children().next()).collect();
+    let values: Vec<ParsedValue> =
+        values.iter().map(|it| firthnapkin::parse_value(it.text(), limits).unwrap()).collect();
+    asks!(found, "ParsedValue", &values; value() shown, node() one, document() one);
+    found.ask("ParsedValue.into_owned", &values, |it| one(it.clone().into_owned()));
+    let owned: Vec<_> = values.iter().map(|it| it.clone().into_owned()).collect();
+    asks!(found, "OwnedValue", &owned; parsed() one, source() one, heap_size() one);
+    let types: Vec<Node> = document.nodes().filter(|it| it.kind() == Kind::Type).collect();
+    let types: Vec<ParsedType> = types.iter().map(|it| firthnapkin::parse_type(it.text(), limits).unwrap()).collect();
+    asks!(found, "ParsedType", &types; as_str() text, node() one, document() one);
+}
+
 fn ask_tokens(found: &mut Found, tokens: &Tokens) {
     asks!(found, "Tokens", &[tokens]; source() one, len() one, is_empty() one, get(0) one, iter() each);
     let all: Vec<Token> = tokens.iter().collect();
@@ -238,6 +253,7 @@ fn line_of(source: &str) -> String {
     found.ask("canonical", &[source], |it| one(firthnapkin::canonical(it)));
     ask_document(&mut found, &document);
     Parts::of(&document).ask(&mut found);
+    ask_literals(&mut found, &document, limits);
     ask_tokens(&mut found, &firthnapkin::tokens(source).unwrap());
     let wrong = format!("{source} )");
     ask_error(&mut found, firthnapkin::parse_within(&wrong, limits).unwrap_err(), &wrong);

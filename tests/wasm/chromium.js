@@ -51,6 +51,7 @@ class Page {
 
 class Browser {
   constructor(program) {
+    this.name = "Chromium";
     this.folder = fs.mkdtempSync(path.join(os.tmpdir(), "chromium-"));
     const words = ["--headless=new", "--remote-debugging-pipe", "--no-sandbox", "--disable-gpu", "--no-first-run", "--disable-dev-shm-usage"];
     this.process = spawn(program, [...words, `--user-data-dir=${this.folder}`, "about:blank"], {

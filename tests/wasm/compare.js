@@ -46,6 +46,9 @@ function* found(calls, bytes) {
   const text = bytes.toString();
   for (const [i, words] of LIMITS.entries()) {
     yield [`parse ${i}`, calls.parse(bytes, words, allocate)];
+    yield [`value ${i}`, calls.parseValue(bytes, words, allocate)];
+    yield [`constant ${i}`, calls.parseConstant(bytes, words, allocate)];
+    yield [`type ${i}`, calls.parseType(bytes, words, allocate)];
     yield [`check ${i}`, calls.check(bytes, words, allocate)];
     yield [`parsePacked ${i}`, calls.parsePacked(text, words, allocate)];
     yield [`isDocument ${i}`, calls.isDocument(text, words)];
@@ -85,11 +88,17 @@ function compare(bytes, statuses) {
   return null;
 }
 
-let [passed, failed, documents] = [0, 0, 0];
+// Whether a text is a document, a value or a type.
+function isWhole(bytes) {
+  const calls = ["check", "parseValue", "parseType"];
+  return addon.isDocument(bytes.toString(), LIMITS[0]) || calls.some((name) => addon[name](bytes, LIMITS[0], allocate).status === "ok");
+}
+
+let [passed, failed, whole] = [0, 0, 0];
 const statuses = new Set();
 for (const bytes of texts(process.argv[2])) {
   const why = compare(bytes, statuses);
-  if (addon.isDocument(bytes.toString(), LIMITS[0]) || addon.check(bytes, LIMITS[0], allocate).status === "ok") documents++;
+  if (isWhole(bytes)) whole++;
   if (why) console.log(`FAILED ${JSON.stringify(bytes.toString().slice(0, 200))}: ${why}`);
   if (why) failed++;
   else passed++;
@@ -102,8 +111,8 @@ for (const status of wanted) {
   console.log(`FAILED no text has the status ${status}`);
   failed++;
 }
-if (3 * documents < passed + failed) {
-  console.log(`FAILED ${documents} of ${passed + failed} texts are documents, fewer than a third`);
+if (3 * whole < passed + failed) {
+  console.log(`FAILED ${whole} of ${passed + failed} texts are documents, values or types, fewer than a third`);
   failed++;
 }
 console.log(`${passed} passed, ${failed} failed`);

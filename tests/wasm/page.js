@@ -1,9 +1,9 @@
 #!/usr/bin/env node
-// Tests the page of docs/playground and the ES module in a headless Chromium: what they show and return is compared with the package
-// over Node's addon. The last line is 'N passed, M failed'.
+// Tests the page of docs/playground and the ES module in a headless browser, Chromium or Firefox: what they show and return is compared
+// with the package over Node's addon. The last line is 'N passed, M failed'.
 //
-//     node tests/wasm/page.js CHROMIUM MODULE          the program, and firthnapkin.wasm, of which both are made
-//     node tests/wasm/page.js CHROMIUM PACKAGE PAGE    those of a release: the folders of Node's package and of the page
+//     node tests/wasm/page.js BROWSER MODULE          the program, and firthnapkin.wasm, of which both are made
+//     node tests/wasm/page.js BROWSER PACKAGE PAGE    those of a release: the folders of Node's package and of the page
 "use strict";
 
 const { execFileSync } = require("child_process");
@@ -12,10 +12,10 @@ const http = require("http");
 const os = require("os");
 const path = require("path");
 const { pathToFileURL } = require("url");
-const { Browser } = require("./chromium");
 
 const ROOT = path.join(__dirname, "..", "..");
 const [program, given, released] = process.argv.slice(2);
+const { Browser } = require(path.basename(program).startsWith("firefox") ? "./firefox" : "./chromium");
 const firthnapkin = require(released ? path.resolve(given) : path.join(ROOT, "bindings", "node"));
 let [passed, failed] = [0, 0];
 
@@ -46,6 +46,17 @@ const REQUEST = `query Q($v: [T!]! = [1, "é"] @d) { k: a(x: "𝄞\\n", y: {b: 1
 fragment F on T { b @d(z: """
  é
 """) ... @d { c: d(l: [true, null, -7]) } }`;
+// Ways of nesting: what stands before, what is repeated, what is in the middle, what is repeated, what is after. Each becomes a source of
+// a depth of 1,000, or with a repetition more of a larger one.
+const NESTED = [
+  ["", "{ a", "", " }", ""], ["", "{ ... on T ", "{ a }", " }", ""], ["{ a(b: ", "[", "1", "]", ") }"], ["{ a(b: ", "{ c: ", "1", " }", ") }"],
+  ["query($v: ", "[", "T", "]!", ") { a }"], ["query($v: T = ", "[{ c: ", "E", " }]", ") { a }"],
+].map(([before, opening, middle, closing, after]) => (more) => {
+  const [outer, level, inner] = [before, opening, middle].map((text) => text.replace(/[^({[]/g, "").length);
+  const count = Math.floor((1000 - outer - inner) / level) + more;
+  return before + opening.repeat(count) + middle + closing.repeat(count) + after;
+});
+
 const ERRORS = ["{ user(id: 4 { name } }", "{\n  𝄞 }", "query { a(b: \"\\q\") }", '{ a(b: "é𝄞") ? }', "{".repeat(300), "type T { a: Int }", ""];
 
 // What the page shows.
@@ -190,9 +201,32 @@ async function testPage(browser, folder) {
   const page = await browser.open(pathToFileURL(path.join(folder, "index.html")).href);
   await page.until(`document.querySelector("#status").textContent.startsWith("A document")`);
   expect("the version", await page.evaluate(`document.querySelector("#version").textContent`), `Version ${firthnapkin.version}.`);
-  for (const test of [testRequest, testErrors, testExamples, testKeyboard, testNames, testColors]) await test(page);
+  const tests = [testRequest, testErrors, testExamples, testKeyboard];
+  if (browser.name === "Chromium") tests.push(testNames, testColors);
+  for (const test of tests) await test(page);
   const others = browser.requests.filter((url) => !url.startsWith("file:") && url !== "about:blank");
   expect("what the page asks of the network", others, []);
+}
+
+// Nesting as deep as a limit may be, and a level more, in the browser's own stack.
+async function testNesting(page) {
+  for (const nested of NESTED) {
+    const wanted = [0, 1].map((more) => outcomeOf(firthnapkin, nested(more)));
+    expect(`that a depth of 1,000 is the most: ${nested(0).slice(0, 30)}`, wanted.map((it) => it.length), [2, 1]);
+    const sources = JSON.stringify([nested(0), nested(1)]);
+    const found = await page.evaluate(`import("/firthnapkin.mjs").then((it) => ${sources}.map((source) => (${outcomeOf})(it, source)))`);
+    expect(`what is nested deeply: ${nested(0).slice(0, 30)}`, found, wanted);
+  }
+}
+
+// The nodes of a source within the largest depth, as their number and where each begins and ends; or the error.
+function outcomeOf({ parse, MAX_DEPTH }, source) {
+  try {
+    const document = parse(source, { depth: MAX_DEPTH });
+    return [document.length, [...document].map((it) => [it.kind, it.start.index, it.end.index].join(" ")).join()];
+  } catch (error) {
+    return [error.message];
+  }
 }
 
 // The ES module, with the module beside it, over HTTP.
@@ -215,10 +249,11 @@ async function testModule(browser, folder) {
       (() => { try { found.check("{ a )"); } catch (error) { return [error.message, error.excerpt]; } })(),
     ])`);
     const error = errorOf(() => firthnapkin.check("{ a )"));
-    expect("the ES module in Chromium", said, [
+    expect(`the ES module in ${browser.name}`, said, [
       [...Object.keys(firthnapkin), "default"].sort(), JSON.stringify([...firthnapkin.parse(REQUEST)]), firthnapkin.canonical(REQUEST),
       [error.message, error.excerpt],
     ]);
+    await testNesting(page);
   } finally {
     server.closeAllConnections?.();
     server.close();

@@ -45,6 +45,10 @@ function requireString(name, value) {
   if (typeof value !== "string") throw new TypeError(`${name} must be a string, not ${typeOf(value)}`);
 }
 
+function requireBoolean(name, value) {
+  if (typeof value !== "boolean") throw new TypeError(`${name} must be a boolean, not ${typeOf(value)}`);
+}
+
 // A number that is an integer from 0 to this.
 function integer(name, value, largest) {
   if (typeof value !== "number") throw new TypeError(`${name} must be a number, not ${typeOf(value)}`);
@@ -98,10 +102,10 @@ const WORDS = [...Object.keys(LIMITS).keys(), ...Object.keys(SIZES).map((_, i) =
 const DEFAULTS = new Uint32Array(addon.LIMITS_LENGTH + addon.SIZES_LENGTH);
 NAMES.forEach((name, i) => { DEFAULTS[WORDS[i]] = Math.min(OPTIONS[name][0], LARGEST_WORD); });
 
-// The words of options. Those that are undefined have their default.
-function limitsOf(options) {
+// The words of options, which have no other names than these. Those that are undefined have their default.
+function limitsAmong(options, names) {
   if (options === NO_OPTIONS) return DEFAULTS;
-  requireOptions(options, NAMES_OF_OPTIONS);
+  requireOptions(options, names);
   const words = new Uint32Array(DEFAULTS);
   for (let i = 0; i < NAMES.length; i++) {
     const value = options[NAMES[i]];
@@ -109,6 +113,13 @@ function limitsOf(options) {
   }
   return words;
 }
+
+function limitsOf(options) {
+  return limitsAmong(options, NAMES_OF_OPTIONS);
+}
+
+// The options of a source that is one type: no operation has a size.
+const LITERAL_OPTIONS = [...Object.keys(LIMITS), NAME];
 
 // The loosest limits.
 const LOOSEST = limitsOf({ depth: addon.MAX_DEPTH });
@@ -121,5 +132,6 @@ function excerptAt(bytes, byte) {
 }
 
 module.exports = {
-  LOOSEST, NO_OPTIONS, addon, allocate, allocated, encoded, excerptAt, limitsOf, nameOf, namesOf, numberOf, requireOptions, requireString,
+  LITERAL_OPTIONS, LOOSEST, NO_OPTIONS, addon, allocate, allocated, encoded, excerptAt, limitsAmong, limitsOf, nameOf, namesOf, numberOf, requireBoolean,
+  requireOptions, requireString,
 };

@@ -13,6 +13,9 @@ const { floatOf, integerOf } = require("./values");
 // By their numbers.
 const KINDS = namesOf(addon.KINDS);
 
+// The kinds of the nodes of definitions.
+const DEFINITIONS = new Set(["query", "mutation", "subscription", "fragmentDefinition"]);
+
 // The kinds of nodes that have no name: their bytes are all that the node is written as.
 const WITHOUT_NAME = new Set(["type", "null", "int", "largeInt", "float", "string", "blockString", "boolean"]);
 
@@ -234,8 +237,13 @@ class Document {
     return new Node(this, index);
   }
 
+  // Whether it is a value or a type that was parsed alone.
+  get isLiteral() {
+    return !DEFINITIONS.has(this.node(0).kind);
+  }
+
   get definitions() {
-    return this.between(0, this.length);
+    return this.isLiteral ? [] : this.between(0, this.length);
   }
 
   get operations() {

@@ -59,8 +59,8 @@ function surrogate(source, index, name) {
   return new FirthnapkinError(`Lone surrogate U+${number}`, found, source, name);
 }
 
-// The error that a call found: its numbers and its words.
-function errorOf(source, numbers, texts, name) {
+// The error that a call found: its numbers and its words, with more words on an unexpected token.
+function errorOf(source, numbers, texts, name, more) {
   const words = new Uint32Array(numbers);
   const units = new Units(source);
   const detail = DETAILS[words[1]];
@@ -72,7 +72,7 @@ function errorOf(source, numbers, texts, name) {
     end: units.position(...words.subarray(7, 11)),
   };
   let reason = Buffer.from(texts).utf8Slice();
-  if (found.kind === "unexpectedToken") reason += wordsOn(source, found.start.index, found.end.index);
+  if (found.kind === "unexpectedToken") reason += more(source, found.start.index, found.end.index);
   return new FirthnapkinError(reason, found, source, name);
 }
 
@@ -89,9 +89,9 @@ function bytesOf(source, name) {
 }
 
 // What a call found, or an error.
-function checked(source, name, { status, parts, texts, complexities }) {
+function checked(source, name, { status, parts, texts, complexities }, more = wordsOn) {
   if (status === "ok") return { parts, texts, complexities };
-  if (WITH_ERROR.includes(status)) throw errorOf(source, parts, texts, name);
+  if (WITH_ERROR.includes(status)) throw errorOf(source, parts, texts, name, more);
   // No string has 4 GiB.
   throw new Error(`the library returned ${status}`);
 }

@@ -73,4 +73,4 @@ function requireDocument(source, name, limits) {
   if (!addon.isDocument(source, limits)) checked(source, name, addon.check(encoded(source), limits, allocate));
 }
 
-module.exports = { WORDS_OF_NODE, foundIn, requireDocument };
+module.exports = { Arrays, WORDS_OF_NODE, foundIn, requireDocument };

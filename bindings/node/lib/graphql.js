@@ -99,6 +99,18 @@ class Converter {
     return found;
   }
 
+  // The node of a value or a type that was parsed alone.
+  literal() {
+    this.#locations.advance();
+    const node = this.#kind === "type" ? this.#type(this.#text) : this.#value();
+    this.#locations.finish();
+    return node;
+  }
+
+  whole() {
+    return this.#document.isLiteral ? this.literal() : this.document();
+  }
+
   document() {
     const start = this.#locations.token;
     this.#locations.advance();
@@ -350,10 +362,10 @@ function toGraphQL(document, options = {}) {
   if (!(document instanceof Document)) throw new TypeError("document must be a Document");
   requireOptions(options, ["graphql"]);
   const { graphql } = options;
-  if (graphql === undefined) return new Converter(document, NO_LOCATIONS).document();
+  if (graphql === undefined) return new Converter(document, NO_LOCATIONS).whole();
   for (const name of ["Lexer", "Location", "Source"])
     if (typeof graphql?.[name] !== "function") throw new TypeError(`graphql must be graphql-js's module, which has ${name}`);
-  return new Converter(document, new Locations(graphql, document.source, document.sourceName)).document();
+  return new Converter(document, new Locations(graphql, document.source, document.sourceName)).whole();
 }
 
 module.exports = { toGraphQL };

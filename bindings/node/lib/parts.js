@@ -240,4 +240,4 @@ class Argument extends Part {
   }
 }
 
-module.exports = { Argument, Directive, Field, Fragment, FragmentSpread, InlineFragment, Operation, VariableDefinition };
+module.exports = { Argument, Directive, Field, Fragment, FragmentSpread, InlineFragment, Operation, Part, VariableDefinition };

@@ -161,6 +161,9 @@ function callsOf(make) {
   });
   return {
     parse: (source, limits, allocate) => within("parse", source, limits, allocate),
+    parseValue: (source, limits, allocate) => within("parse_value", source, limits, allocate),
+    parseConstant: (source, limits, allocate) => within("parse_constant", source, limits, allocate),
+    parseType: (source, limits, allocate) => within("parse_type", source, limits, allocate),
     check: (source, limits, allocate) => within("check", source, limits, allocate),
     complexities: (source, allocate) => call("complexities", source, allocate),
     tokens: (source, most, allocate) => call("tokens", source, allocate, most >= 0 && most < LARGEST_WORD ? most : LARGEST_WORD),

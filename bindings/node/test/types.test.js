@@ -10,11 +10,11 @@ const { inspect } = require("util");
 const firthnapkin = require("..");
 const { declaration } = require("../lib/limits");
 
-const { check, parse, tokens, canonical, FirthnapkinError } = firthnapkin;
+const { check, parse, parseType, parseValue, tokens, canonical, FirthnapkinError } = firthnapkin;
 
 // What a program may find at run time and has no use for.
 const INTERNAL = {
-  Document: ["word", "texts", "bytes", "nameAt", "units", "position", "parents", "between", "complexityOf"],
+  Document: ["word", "texts", "bytes", "nameAt", "units", "position", "parents", "between", "complexityOf", "isLiteral"],
   Tokens: ["units", "position"],
 };
 
@@ -52,7 +52,7 @@ const classes = Array.from(text.matchAll(/^export class (\w+)/gm), ([, name]) =>
 // The interfaces and classes that classes are of.
 const CLASSES = [
   "Node", "Document", "Operation", "Fragment", "Field", "FragmentSpread", "InlineFragment", "VariableDefinition", "Directive",
-  "Argument", "EnumValue", "Variable", "Tokens", "Token", "FirthnapkinError",
+  "Argument", "ParsedValue", "ParsedType", "EnumValue", "Variable", "Tokens", "Token", "FirthnapkinError",
 ];
 
 /** The alternatives of a type, each without spaces around. */
@@ -168,6 +168,11 @@ test("enums and variables are what index.d.ts says", () => {
   for (const name of ["EnumValue", "Variable"]) compared(name, new firthnapkin[name]("a"));
 });
 
+test("values and types alone are what index.d.ts says", () => {
+  for (const value of ["1", '"s"', '"""t"""', "1.5", "99999999999999999999", "null", "true", "E", "$v", "[1]", "{a: 1}"]) compared("ParsedValue", parseValue(value));
+  compared("ParsedType", parseType("[T!]"));
+});
+
 test("errors are what index.d.ts says", () => {
   for (const words of ERRORS) {
     assert.throws(() => parse(...words), (error) => {
@@ -183,7 +188,8 @@ test("what is exported is what index.d.ts says", () => {
   for (const [name, { parameters, type }] of functions) {
     const required = parameters.split(",").filter((word) => !word.includes("?"));
     assert.strictEqual(firthnapkin[name].length, required.length, name);
-    assert.ok(has(type, firthnapkin[name](name === "toGraphQL" ? parse("{ a }") : "{ a }"), name), name);
+    const given = { toGraphQL: parse("{ a }"), parseValue: "[1]", parseType: "[T]" }[name] ?? "{ a }";
+    assert.ok(has(type, firthnapkin[name](given), name), name);
   }
   assert.deepStrictEqual(classes, ["EnumValue", "Variable", "FirthnapkinError"]);
   // The classes of what is returned are there for `instanceof`.
@@ -206,6 +212,7 @@ test("the options are those of index.d.ts", () => {
     ...[parse, check].map((call) => [
       "Options", call, ["depth", "maxAliases", "maxDirectives", "maxFieldDepth", "maxFields", "maxRootFields", "maxTokens", "name"],
     ]),
+    ["TypeOptions", parseType, ["depth", "maxTokens", "name"]], ["ValueOptions", parseValue, ["constant", "depth", "maxTokens", "name"]],
     ["TokenOptions", tokens, ["maxTokens", "name"]], ["CanonicalOptions", canonical, ["name"]],
   ]) {
     const options = objects.get(type);
@@ -214,7 +221,7 @@ test("the options are those of index.d.ts", () => {
     for (const [name, member] of options) {
       assert.ok(member.isOptional, name);
       for (const value of [5, 5n, "5", true, null, undefined]) {
-        const run = () => call("{ a }", { [name]: value });
+        const run = () => call([parseType, parseValue].includes(call) ? "T" : "{ a }", { [name]: value });
         if (value === undefined || has(member.type, value, `${type}.${name}`)) run();
         else assert.throws(run, TypeError);
       }

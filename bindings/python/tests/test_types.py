@@ -23,6 +23,8 @@ from firthnapkin import (
     Kind,
     Node,
     Operation,
+    ParsedType,
+    ParsedValue,
     Position,
     Selection,
     SyntaxParts,
@@ -44,10 +46,12 @@ PROPERTIES: Dict[type, Dict[str, Any]] = {
     VariableDefinition: {"name": str, "type": str, "default_value": Value, "has_default_value": bool, "directives": SyntaxParts[Directive]},
     Directive: {"name": str, "arguments": SyntaxParts[Argument]},
     Argument: {"name": str, "value": Value},
+    ParsedValue: {"value": Value},
+    ParsedType: {"type": str},
 }  # fmt: skip
 
 PROGRAM = """
-from firthnapkin import Field, FragmentSpread, SyntaxPart, SyntaxParts, parse
+from firthnapkin import Field, FragmentSpread, SyntaxPart, SyntaxParts, parse, parse_type, parse_value
 
 def count(parts: SyntaxParts[SyntaxPart]) -> int:
     return len(parts)
@@ -66,15 +70,17 @@ for selection in document.operations[0].selections:
     else:
         reveal_type(selection)
 count(document.operations[0].selections)
+reveal_type(parse_value("1", constant=True))
+reveal_type(parse_type("T").type)
 """
 
 REVEALED = ["SyntaxParts[Operation]", "Operation | None", "int", "Fragment | None", "SyntaxParts[Argument]", "Argument | None", "str",
-            "InlineFragment"]  # fmt: skip
+            "InlineFragment", "ParsedValue", "str"]  # fmt: skip
 
 
 # The lines with a call that has a wrong option.
 CALLS = """
-from firthnapkin import canonical, parse, tokens
+from firthnapkin import canonical, parse, parse_type, parse_value, tokens
 
 parse("{ a }", depth=5, max_tokens=None)
 parse(source="{ a }", max_tokens=5)
@@ -91,8 +97,15 @@ tokens("{ a }", max_fields=5)
 parse("{ a }", max_fields="5")
 parse("{ a }", name=5)
 canonical("{ a }", name=b"a.graphql")
+parse_value("1", constant=1.5)
+parse_value("1", max_fields=5)
+parse_value("1", True)
+parse_type("T", constant=True)
+parse_type("T", depth=None)
+parse_value("1", constant=True, name="a", depth=5, max_tokens=None)
+parse_type("T", name="a", depth=5, max_tokens=5)
 """
-REFUSED = list(range(9, 19))
+REFUSED = list(range(9, 24))
 
 
 def plain(revealed: str) -> str:

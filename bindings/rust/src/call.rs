@@ -54,6 +54,33 @@ extern "C" {
         error: *mut RawError,
     ) -> u32;
 
+    fn firthnapkin_parse_value(
+        source: *const u8,
+        length: usize,
+        constant: u32,
+        limits: *const RawLimits,
+        nodes: *mut RawNode,
+        nodes_capacity: usize,
+        nodes_length: *mut usize,
+        texts: *mut u8,
+        texts_capacity: usize,
+        texts_length: *mut usize,
+        error: *mut RawError,
+    ) -> u32;
+
+    fn firthnapkin_parse_type(
+        source: *const u8,
+        length: usize,
+        limits: *const RawLimits,
+        nodes: *mut RawNode,
+        nodes_capacity: usize,
+        nodes_length: *mut usize,
+        texts: *mut u8,
+        texts_capacity: usize,
+        texts_length: *mut usize,
+        error: *mut RawError,
+    ) -> u32;
+
     fn firthnapkin_parse_complexities(
         source: *const u8,
         length: usize,
@@ -118,10 +145,27 @@ pub fn parse(source: &str) -> Result<Document<'_>, Error> {
 /// limit on operations is refused where it begins; with such a limit a spread that can't be expanded is refused, too, if an
 /// operation reaches it.
 pub fn parse_within(source: &str, limits: Limits) -> Result<Document<'_>, Error> {
-    within(
-        &limits,
-        || if limits.has_sizes() { complexity::measure(source, &limits) } else { parse_here(source, &limits) },
-    )
+    within(&limits, || {
+        if limits.has_sizes() {
+            complexity::measure(source, &limits)
+        } else {
+            parse_here(Form::Document, source, &limits)
+        }
+    })
+}
+
+/// What a source is parsed as.
+#[derive(Clone, Copy, PartialEq)]
+pub(crate) enum Form {
+    Document,
+    Value,
+    Constant,
+    Type,
+}
+
+/// What a source of this form is within these limits, as a document that has it alone.
+pub(crate) fn parse_as<'a>(form: Form, source: &'a str, limits: &Limits) -> Result<Document<'a>, Error> {
+    within(limits, || parse_here(form, source, limits))
 }
 
 /// Whether a source is a document within these limits. If not, the error is that of [`parse_within`]. No document is built, and no
@@ -194,27 +238,30 @@ pub(crate) fn at_first(source: &str) -> usize {
 }
 
 /// A parse on this thread's stack.
-fn parse_here<'a>(source: &'a str, limits: &Limits) -> Result<Document<'a>, Error> {
+fn parse_here<'a>(form: Form, source: &'a str, limits: &Limits) -> Result<Document<'a>, Error> {
     let raw = limits.words();
     let (mut nodes_length, mut texts_length) = (at_first(source) + 16, at_first(source) + 64);
     loop {
         let mut nodes: Vec<RawNode> = with_capacity(nodes_length)?;
         let mut texts: Vec<u8> = with_capacity(texts_length)?;
         let mut error = RawError::default();
+        let (n, n_capacity, n_length) = (nodes.as_mut_ptr(), nodes.capacity(), &mut nodes_length);
+        let (t, t_capacity, t_length) = (texts.as_mut_ptr(), texts.capacity(), &mut texts_length);
+        let (s, length, e) = (source.as_ptr(), source.len(), &mut error);
+        let constant = u32::from(form == Form::Constant);
         // SAFETY: each pointer refers to as much memory as its capacity says, none overlaps another, and the stack is enough.
         let status = unsafe {
-            firthnapkin_parse(
-                source.as_ptr(),
-                source.len(),
-                &raw,
-                nodes.as_mut_ptr(),
-                nodes.capacity(),
-                &mut nodes_length,
-                texts.as_mut_ptr(),
-                texts.capacity(),
-                &mut texts_length,
-                &mut error,
-            )
+            match form {
+                Form::Document => {
+                    firthnapkin_parse(s, length, &raw, n, n_capacity, n_length, t, t_capacity, t_length, e)
+                }
+                Form::Value | Form::Constant => firthnapkin_parse_value(
+                    s, length, constant, &raw, n, n_capacity, n_length, t, t_capacity, t_length, e,
+                ),
+                Form::Type => {
+                    firthnapkin_parse_type(s, length, &raw, n, n_capacity, n_length, t, t_capacity, t_length, e)
+                }
+            }
         };
         if status == OK {
             // SAFETY: the call wrote that many.
@@ -224,7 +271,7 @@ fn parse_here<'a>(source: &'a str, limits: &Limits) -> Result<Document<'a>, Erro
             }
             return Ok(Document::new(source, Tree::new(nodes, text_of(texts), limits.depth)));
         }
-        refused(status, source, &error)?;
+        refused_as(form, status, source, &error)?;
     }
 }
 
@@ -365,10 +412,15 @@ pub(crate) fn with_capacity<T>(count: usize) -> Result<Vec<T>, Error> {
 
 /// The error of a status; none if a buffer was too small.
 fn refused(status: u32, source: &str, error: &RawError) -> Result<(), Error> {
+    refused_as(Form::Document, status, source, error)
+}
+
+/// The same of a source that is wanted to be of this form.
+fn refused_as(form: Form, status: u32, source: &str, error: &RawError) -> Result<(), Error> {
     match status {
         BUFFER_TOO_SMALL => Ok(()),
         SYNTAX_ERROR | TOO_DEEP | TOO_MANY_TOKENS | UNKNOWN_FRAGMENT | FRAGMENT_CYCLE => {
-            Err(error_of(source, error)?.into())
+            Err(error_of(form, source, error)?.into())
         }
         _ => Err(failure(status)),
     }
@@ -383,10 +435,10 @@ fn failure(status: u32) -> Error {
     }
 }
 
-fn error_of(source: &str, error: &RawError) -> Result<SyntaxError, Error> {
+fn error_of(form: Form, source: &str, error: &RawError) -> Result<SyntaxError, Error> {
     let mut message = words(firthnapkin_message, source, error)?;
     let kind = ErrorKind::of(error.kind);
-    if kind == ErrorKind::UnexpectedToken {
+    if form == Form::Document && kind == ErrorKind::UnexpectedToken {
         message.push_str(schemas::words_on(source, error.start.byte as usize, error.end.byte as usize));
     }
     Ok(SyntaxError {

@@ -85,9 +85,13 @@ const KINDS: [Kind; 26] = [
 #[repr(C)]
 #[derive(Clone, Copy, Debug, Default, PartialEq, Eq, PartialOrd, Ord, Hash)]
 pub struct Position {
+    /// The characters of the source before it.
     pub index: u32,
+    /// The line feeds before it.
     pub line: u32,
+    /// The characters of the line before it.
     pub column: u32,
+    /// The bytes of the source before it.
     pub byte: u32,
 }
 
@@ -111,8 +115,11 @@ pub(crate) struct RawNode {
 pub enum NodeValue<'d> {
     /// No such node.
     Nothing,
+    /// The number of an Int that 32 bits hold.
     Int(i32),
+    /// A Boolean.
     Boolean(bool),
+    /// What a String or a block string means, a type without spaces, or a name.
     Text(&'d str),
     /// An Int beyond 32 bits or a Float, as it is written.
     Number(&'d str),
@@ -241,9 +248,15 @@ impl<'a> Document<'a> {
         (0..self.len()).map(move |index| Node { document: self, index })
     }
 
-    /// The nodes of the operations and fragments.
+    /// The nodes of the operations and fragments. A value or a type that was parsed alone has none.
     pub fn definitions(&self) -> Children<'_, 'a> {
-        Children { document: self, index: 0, end: self.len() }
+        let is_literal = self.node(0).is_some_and(|node| node.raw().kind > Kind::FragmentDefinition as u32);
+        Children { document: self, index: 0, end: if is_literal { 0 } else { self.len() } }
+    }
+
+    /// The first node, which a document, a value and a type have.
+    pub(crate) fn first(&self) -> Node<'_, 'a> {
+        Node { document: self, index: 0 }
     }
 }
 
@@ -308,6 +321,7 @@ impl<'d, 'a> Node<'d, 'a> {
         self.index
     }
 
+    /// What it is a node of.
     pub fn kind(&self) -> Kind {
         KINDS[self.raw().kind as usize]
     }
@@ -317,6 +331,7 @@ impl<'d, 'a> Node<'d, 'a> {
         self.raw().descendants as usize
     }
 
+    /// The position of the first character.
     pub fn start(&self) -> Position {
         self.raw().start
     }
@@ -341,6 +356,7 @@ impl<'d, 'a> Node<'d, 'a> {
         }
     }
 
+    /// What it means, or names besides its name.
     pub fn value(&self) -> NodeValue<'d> {
         let raw = self.raw();
         match self.kind() {

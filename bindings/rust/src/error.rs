@@ -39,11 +39,13 @@ impl Error {
 pub struct SyntaxError {
     /// The error, without its position.
     pub message: String,
+    /// What is wrong.
     pub kind: ErrorKind,
     /// What is wrong, if the kind is [`ErrorKind::Lexical`].
     pub detail: Option<ErrorDetail>,
     /// The positions of a token, a spread or an operation, or of zero width. Lines and columns are counted from 0.
     pub start: Position,
+    /// The position after its last character.
     pub end: Position,
     /// The name of the source, if [`Error::with_source_name`] gave it one.
     pub source_name: Option<String>,

@@ -124,10 +124,12 @@ pub struct Token<'a> {
 }
 
 impl<'a> Token<'a> {
+    /// What it is.
     pub fn kind(&self) -> TokenKind {
         KINDS[self.raw.kind as usize]
     }
 
+    /// The position of the first character.
     pub fn start(&self) -> Position {
         self.raw.start
     }

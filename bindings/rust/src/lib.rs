@@ -13,6 +13,7 @@ mod complexity;
 mod document;
 mod error;
 mod lexer;
+mod literal;
 mod owned;
 mod parts;
 mod schemas;
@@ -24,6 +25,7 @@ pub use complexity::Complexity;
 pub use document::{Children, Document, Kind, Node, NodeValue, Position};
 pub use error::{Error, ErrorDetail, ErrorKind, SyntaxError};
 pub use lexer::{Token, TokenKind, Tokens};
+pub use literal::{parse_const_value, parse_type, parse_value, OwnedValue, ParsedType, ParsedValue};
 pub use owned::OwnedDocument;
 pub use parts::{
     Argument, Directive, Field, Fragment, FragmentSpread, InlineFragment, Operation, OperationKind, Selection,

@@ -78,16 +78,22 @@ part!(
 /// What an [`Operation`] is.
 #[derive(Clone, Copy, Debug, PartialEq, Eq, Hash)]
 pub enum OperationKind {
+    /// It only reads.
     Query,
+    /// It writes.
     Mutation,
+    /// It is long-lived.
     Subscription,
 }
 
 /// What is selected.
 #[derive(Clone, Copy, Debug, PartialEq, Eq)]
 pub enum Selection<'d, 'a> {
+    /// A field.
     Field(Field<'d, 'a>),
+    /// The use of a fragment by its name.
     FragmentSpread(FragmentSpread<'d, 'a>),
+    /// A fragment without a name.
     InlineFragment(InlineFragment<'d, 'a>),
 }
 
@@ -188,6 +194,7 @@ impl<'d, 'a> Operation<'d, 'a> {
         self.0.document().complexity_of(self.0.index())
     }
 
+    /// What it is.
     pub fn kind(&self) -> OperationKind {
         match self.0.kind() {
             Kind::Mutation => OperationKind::Mutation,
@@ -218,6 +225,7 @@ impl<'d, 'a> Operation<'d, 'a> {
 }
 
 impl<'d, 'a> Fragment<'d, 'a> {
+    /// The name.
     pub fn name(&self) -> &'a str {
         name(self.0)
     }
@@ -344,10 +352,12 @@ impl<'d, 'a> Directive<'d, 'a> {
 }
 
 impl<'d, 'a> Argument<'d, 'a> {
+    /// The name.
     pub fn name(&self) -> &'a str {
         name(self.0)
     }
 
+    /// The value.
     pub fn value(&self) -> Value<'d, 'a> {
         self.0.children().next().map_or(Value::Null, Value::of)
     }

@@ -8,7 +8,9 @@ use std::fmt;
 #[derive(Clone, Copy, Debug, PartialEq)]
 #[non_exhaustive]
 pub enum Value<'d, 'a> {
+    /// The value null.
     Null,
+    /// True or false.
     Boolean(bool),
     /// An Int that `i64` holds.
     Int(i64),
@@ -18,15 +20,20 @@ pub enum Value<'d, 'a> {
     Number(&'a str),
     /// What a String or a block string means.
     String(&'d str),
+    /// A value of an enum.
     Enum(Enum<'a>),
+    /// A variable.
     Variable(Variable<'a>),
+    /// A list of values.
     List(List<'d, 'a>),
+    /// An object.
     Object(Object<'d, 'a>),
 }
 
 /// The value of an enum.
 #[derive(Clone, Copy, Debug, PartialEq, Eq, Hash)]
 pub struct Enum<'a> {
+    /// Its name, as it is written.
     pub name: &'a str,
 }
 

@@ -19,24 +19,24 @@ unfolding encode
 kind_bytes kind.Query = refl
 kind_bytes kind.Mutation = refl
 kind_bytes kind.Subscription = refl
-kind_bytes kind.Fragment = refl
-kind_bytes kind.Variables = refl
-kind_bytes kind.Variable = refl
+kind_bytes kind.FragmentDefinition = refl
+kind_bytes kind.VariableDefinitions = refl
+kind_bytes kind.VariableDefinition = refl
 kind_bytes kind.Type = refl
 kind_bytes kind.Field = refl
 kind_bytes kind.Alias = refl
-kind_bytes kind.Spread = refl
-kind_bytes kind.Inline = refl
+kind_bytes kind.FragmentSpread = refl
+kind_bytes kind.InlineFragment = refl
 kind_bytes kind.Directive = refl
 kind_bytes kind.Arguments = refl
 kind_bytes kind.Argument = refl
 kind_bytes kind.Null = refl
 kind_bytes kind.Scalar = refl
 kind_bytes kind.Enum = refl
-kind_bytes kind.Reference = refl
+kind_bytes kind.Variable = refl
 kind_bytes kind.List = refl
 kind_bytes kind.Object = refl
-kind_bytes kind.Key = refl
+kind_bytes kind.ObjectField = refl
 
 pub place-bytes : (kind : NodeKind) (start end : ℕ) → start < 2 ^ 64 → end < 2 ^ 64
     → encode_utf8_all (place_text kind start end) ≡ kind_name kind ++ (32 ∷ (decimal start ++ (32 ∷ decimal end)))

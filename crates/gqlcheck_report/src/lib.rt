@@ -1,4 +1,5 @@
-//! What the program `gqlcheck` does with a reader and a writer: it reads a request, and writes its tree or its first fault.
+//! What the program `gqlcheck` does with a reader and a writer: it reads a request, and writes its tree or its first
+//! fault.
 #![tactic(auto)]
 
 mod lines;

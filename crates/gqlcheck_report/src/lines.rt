@@ -17,7 +17,8 @@ pub(crate) fn document_text<S: ScalarValue>(
     alloc: Global,
     document: &[Definition<'_, S>],
 ) -> Result<String, AllocError>
-    ensures { IfOk result (λ text. string_bytes text ≡ encode_utf8_all (document_lines (map (view_definition S.content) document.now))) }
+    ensures { IfOk result (λ text. string_bytes text ≡ encode_utf8_all
+        (document_lines (map (view_definition S.content) document.now))) }
 {
     let nodes = document_nodes(alloc, document)?;
     let mut text = String::new(alloc);
@@ -29,7 +30,8 @@ pub(crate) fn document_text<S: ScalarValue>(
 
 // Writes the line of a node.
 fn write_node<S: ScalarValue>(out: &mut String, node: &Node<'_, '_, S>) -> Result<(), AllocError>
-    ensures { OnOk result (string_bytes out.new ≡ string_bytes out.old ++ encode_utf8_all (node_line (view_node S.content node.now))) }
+    ensures { OnOk result (string_bytes out.new ≡ string_bytes out.old ++ encode_utf8_all
+        (node_line (view_node S.content node.now))) }
 {
     write_place(
         out,
@@ -51,7 +53,8 @@ fn write_place(out: &mut String, kind: NodeKind, start: usize, end: usize) -> Re
 
 // Writes the label of the node, if it has one.
 fn write_label<S: ScalarValue>(out: &mut String, node: &Node<'_, '_, S>) -> Result<(), AllocError>
-    ensures { OnOk result (string_bytes out.new ≡ string_bytes out.old ++ encode_utf8_all (label_text (view_node S.content node.now).label)) }
+    ensures { OnOk result (string_bytes out.new ≡ string_bytes out.old ++ encode_utf8_all
+        (label_text (view_node S.content node.now).label)) }
 {
     match &node.label {
         Label::Unnamed => Ok(()),
@@ -72,7 +75,8 @@ fn write_name(out: &mut String, name: &str) -> Result<(), AllocError>
 }
 
 fn write_type(out: &mut String, literal: &Type<&str>) -> Result<(), AllocError>
-    ensures { OnOk result (string_bytes out.new ≡ string_bytes out.old ++ encode_utf8_all (32 ∷ type_text (view_type literal.now))) }
+    ensures { OnOk result (string_bytes out.new ≡ string_bytes out.old ++ encode_utf8_all
+        (32 ∷ type_text (view_type literal.now))) }
 {
     write!(out, " {literal}")
 }

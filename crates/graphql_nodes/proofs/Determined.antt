@@ -41,7 +41,7 @@ operation_determined operation.Mutation operation.Mutation e = refl
 operation_determined operation.Subscription operation.Subscription e = refl
 operation_determined a b e = absurd (cc)
 
-no_fragment : (a : OperationType) → operation_kind a ≡ kind.Fragment → ⊥
+no_fragment : (a : OperationType) → operation_kind a ≡ kind.FragmentDefinition → ⊥
 no_fragment operation.Query e = absurd (cc)
 no_fragment operation.Mutation e = absurd (cc)
 no_fragment operation.Subscription e = absurd (cc)
@@ -129,11 +129,15 @@ module _ {C : Type 0} where
       → directive_nodes d ++ r ≡ directive_nodes f ++ s → (d ≡ f) × (r ≡ s)
   unfolding directive_nodes
   directive_determined d f h k r s e =
-      let t = shares _ _ _ _ _ _ (if_present arguments_nodes d.item.arguments) (if_present arguments_nodes f.item.arguments) r s
+      let t = shares _ _ _ _ _ _ (if_present arguments_nodes d.item.arguments)
+      (if_present arguments_nodes f.item.arguments) r s
       e in
       let arguments = (if_arguments_determined d.item.arguments f.item.arguments [] [] (no_first kind.Arguments)
-      (no_first kind.Arguments) (nothing_after _ _ t.inner)).0 in
-      (same_place d f (same_directive d.item f.item (named_determined d.item.name f.item.name t.label) arguments) t.span, t.rest)
+      (no_first kind.Arguments) (nothing_after _ _ t.inner)).0 in (
+        same_place d f (same_directive d.item f.item (named_determined d.item.name f.item.name t.label) arguments)
+            t.span,
+        t.rest,
+      )
 
   directives_determined : (ds fs : Directives C) → FilledDirectives ds → FilledDirectives fs → (r s : List (Node C))
       → Avoids kind.Directive r → Avoids kind.Directive s
@@ -195,7 +199,8 @@ module _ {C : Type 0} where
       (any_present w.default) (directives_nodes v.directives) (directives_nodes w.directives)
       (no_default v.directives) (no_default w.directives) type.rest in
       let directives = lone_directives_determined v.directives w.directives h k default.1 in (
-        same_variable v w (named_determined v.name w.name t.label) (same_place v.of_type w.of_type (typed_determined v.of_type.item w.of_type.item type.label) type.span)
+        same_variable v w (named_determined v.name w.name t.label)
+            (same_place v.of_type w.of_type (typed_determined v.of_type.item w.of_type.item type.label) type.span)
             default.0 directives,
         t.rest,
       )
@@ -320,8 +325,8 @@ module _ {C : Type 0} where
   no_more_variables : (ds : Directives C) (ss : Selections C) → Apart variables_nodes (after_variables ds ss)
   no_more_variables ds ss =
       another_kind variables_nodes _ variables_first _
-      (directives_avoid kind.Variables (λ e. cc) ds _
-      (selections_avoid kind.Variables (λ e. cc) (λ e. cc) (λ e. cc) ss))
+      (directives_avoid kind.VariableDefinitions (λ e. cc) ds _
+      (selections_avoid kind.VariableDefinitions (λ e. cc) (λ e. cc) (λ e. cc) ss))
 
   definition_determined : (a b : Definition C) → FilledDefinition a → FilledDefinition b → (r s : List (Node C))
       → definition_nodes a ++ r ≡ definition_nodes b ++ s → (a ≡ b) × (r ≡ s)

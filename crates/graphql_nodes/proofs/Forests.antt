@@ -3,9 +3,9 @@ use Rattle.std.proofs.Common.{◌≡◌, ◌≤◌, ◌∷◌, [], List, ◌++�
 use Rattle.graphql_lexical.specs.Place.{Span}
 use Rattle.graphql_grammar.specs.Tokens.{Located, Word}
 use Rattle.graphql_grammar.specs.Tree as tree
-use Rattle.graphql_grammar.specs.Tree.{Value, Items, no_items, item, ObjectFields, no_fields, object_field, Argument, Arguments, Directive, Directives, VariableDefinition, Variables, Selection, Selections, no_selections, selection, OptionalSelections, absent, present, Definition}
+use Rattle.graphql_grammar.specs.Tree.{Value, Items, no_items, item, ObjectFields, no_fields, object_field, TypeRef, Argument, Arguments, Directive, Directives, VariableDefinition, Variables, Selection, Selections, no_selections, selection, OptionalSelections, absent, present, Definition}
 use Rattle.graphql_nodes.specs.declared.kind.NodeKind.{NodeKind}
-use Rattle.graphql_nodes.specs.Nodes.{Node, Label, over, if_present, each, value_nodes, items_nodes, fields_nodes, argument_nodes, arguments_nodes, directive_nodes, directives_nodes, variable_nodes, variables_nodes, alias_nodes, selection_nodes, optional_nodes, selections_nodes, definition_nodes, document_nodes, nodes_at}
+use Rattle.graphql_nodes.specs.Nodes.{Node, Label, over, if_present, each, value_nodes, items_nodes, fields_nodes, argument_nodes, arguments_nodes, directive_nodes, directives_nodes, variable_nodes, variables_nodes, alias_nodes, selection_nodes, optional_nodes, selections_nodes, definition_nodes, document_nodes, nodes_at, type_nodes}
 use Rattle.graphql_nodes.proofs.Splits.{node_over}
 use Rattle.graphql_nodes.specs.Forests.{IsForest, no_node, node_first}
 
@@ -55,7 +55,7 @@ module _ {C : Type 0} where
     fields_forest (object_field w v p fs) =
         join _ (fields_nodes fs) (over_forest _ _ _ (nodes_at v p) (forest_at v p)) (fields_forest fs)
 
-  value_forest : (v : Located (Value C)) → IsForest (value_nodes v)
+  pub value_forest : (v : Located (Value C)) → IsForest (value_nodes v)
   value_forest v = forest_at v.item v.span
 
   argument_forest : (a : Argument C) → IsForest (argument_nodes a)
@@ -77,13 +77,16 @@ module _ {C : Type 0} where
   unfolding directives_nodes
   directives_forest ds = if_present_forest (each directive_nodes) (each_forest directive_nodes directive_forest) ds
 
+  pub type_forest : (type : Located TypeRef) → IsForest {C = C} (type_nodes type)
+  type_forest type = over_forest _ _ _ [] no_node
+
   variable_forest : (v : VariableDefinition C) → IsForest (variable_nodes v)
   unfolding variable_nodes
   variable_forest v =
       let default = if_present_forest value_nodes value_forest v.default in
       let tail = join (if_present value_nodes v.default) (directives_nodes v.directives) default
       (directives_forest v.directives) in
-      over_forest _ _ _ _ (join _ _ (over_forest _ _ _ [] no_node) tail)
+      over_forest _ _ _ _ (join (type_nodes v.of_type) _ (type_forest v.of_type) tail)
 
   variables_forest : (v : Variables C) → IsForest (variables_nodes v)
   unfolding variables_nodes

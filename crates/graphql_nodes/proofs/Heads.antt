@@ -1,7 +1,7 @@
 -- The kind of the node that a list begins with.
 use Rattle.std.proofs.Common.{◌≡◌, ◌∷◌, [], List, ◌++◌, Option, Some, None, refl, sym, ap, ◌∙◌}
 use Rattle.graphql_grammar.specs.Tree as tree
-use Rattle.graphql_grammar.specs.Tree.{Value, Argument, Arguments, Directive, Directives, Variables, Selection, Selections, no_selections, selection, OptionalSelections, absent, present, Definition}
+use Rattle.graphql_grammar.specs.Tree.{Value, Argument, Arguments, Directive, Directives, Selection, Selections, no_selections, selection, OptionalSelections, absent, present, Definition}
 use Rattle.graphql_nodes.specs.declared.kind.NodeKind.{NodeKind}
 use Rattle.graphql_nodes.specs.declared.kind.NodeKind.TheVariants as kind
 use Rattle.graphql_nodes.specs.Nodes.{Node, if_present, each, argument_nodes, arguments_nodes, directive_nodes, directives_nodes, variable_nodes, variables_nodes, alias_nodes, selection_nodes, optional_nodes, selections_nodes, definition_nodes, operation_kind, nodes_at}
@@ -48,7 +48,7 @@ module _ {C : Type 0} where
   kind_of_value tree.Null = kind.Null
   kind_of_value (tree.Scalar c) = kind.Scalar
   kind_of_value (tree.Enum w) = kind.Enum
-  kind_of_value (tree.Variable w) = kind.Reference
+  kind_of_value (tree.Variable w) = kind.Variable
   kind_of_value (tree.ListOf vs) = kind.List
   kind_of_value (tree.Object fs) = kind.Object
 
@@ -82,11 +82,11 @@ module _ {C : Type 0} where
   unfolding directive_nodes
   directive_first d r = refl
 
-  pub variable_first : BeginsWith variable_nodes (λ v. kind.Variable)
+  pub variable_first : BeginsWith variable_nodes (λ v. kind.VariableDefinition)
   unfolding variable_nodes
   variable_first v r = refl
 
-  pub variables_first : BeginsWith variables_nodes (λ v. kind.Variables)
+  pub variables_first : BeginsWith variables_nodes (λ v. kind.VariableDefinitions)
   unfolding variables_nodes
   variables_first v r = refl
 
@@ -96,8 +96,8 @@ module _ {C : Type 0} where
 
   abbrev pub kind_of_selection : Selection C → NodeKind
   kind_of_selection (tree.Field alias name arguments directives ss p) = kind.Field
-  kind_of_selection (tree.FragmentSpread name directives p) = kind.Spread
-  kind_of_selection (tree.InlineFragment condition directives ss p) = kind.Inline
+  kind_of_selection (tree.FragmentSpread name directives p) = kind.FragmentSpread
+  kind_of_selection (tree.InlineFragment condition directives ss p) = kind.InlineFragment
 
   pub selection_first : BeginsWith selection_nodes kind_of_selection
   unfolding selection_nodes
@@ -107,7 +107,7 @@ module _ {C : Type 0} where
 
   abbrev pub kind_of_definition : Definition C → NodeKind
   kind_of_definition (tree.Operation type name variables directives ss p) = operation_kind type
-  kind_of_definition (tree.Fragment name condition directives ss p) = kind.Fragment
+  kind_of_definition (tree.Fragment name condition directives ss p) = kind.FragmentDefinition
 
   pub definition_first : BeginsWith definition_nodes kind_of_definition
   unfolding definition_nodes
@@ -129,7 +129,8 @@ module _ {C : Type 0} where
   directives_avoid k differ (Some []) r avoids = avoids
   directives_avoid k differ (Some (d ∷ ds)) r avoids = differ
 
-  pub selections_avoid : (k : NodeKind) → Differ kind.Field k → Differ kind.Spread k → Differ kind.Inline k
+  pub selections_avoid : (k : NodeKind) → Differ kind.Field k → Differ kind.FragmentSpread k
+      → Differ kind.InlineFragment k
       → (ss : Selections C) → Avoids k (selections_nodes ss)
   unfolding selection_nodes
   selections_avoid k field spread inline no_selections e = absurd (cc)
@@ -139,7 +140,8 @@ module _ {C : Type 0} where
   selections_avoid k field spread inline (selection (tree.InlineFragment condition directives ss p) others) e =
       inline e
 
-  pub optional_avoid : (k : NodeKind) → Differ kind.Field k → Differ kind.Spread k → Differ kind.Inline k
+  pub optional_avoid : (k : NodeKind) → Differ kind.Field k → Differ kind.FragmentSpread k
+      → Differ kind.InlineFragment k
       → (ss : OptionalSelections C) → Avoids k (optional_nodes ss)
   unfolding selection_nodes
   optional_avoid k field spread inline absent e = absurd (cc)

@@ -6,6 +6,6 @@ pub mod DeterminedParts
 pub mod Determined
 pub mod Forests
 pub mod Measures
-pub mod Few
 pub mod Lying
+pub mod Sources
 pub mod Public

@@ -13,10 +13,10 @@ use Rattle.graphql_grammar.specs.Tokens.{Text, Located, Word, span_of}
 use Rattle.graphql_grammar.specs.Tree as tree
 use Rattle.graphql_grammar.specs.Tree.{Scalars, TypeRef, Value, Items, no_items, item, ObjectFields, no_fields, object_field, Argument, Arguments, Directive, Directives, VariableDefinition, Variables, Selection, Selections, no_selections, selection, OptionalSelections, absent, present, Definition}
 use Rattle.graphql_lexical.specs.Parts.{◌·◌}
-use Rattle.graphql_grammar.specs.Grammar.{IsLocated, Token, Is, IsValue, AreItems, AreFields, Each, Optional, Several, Listed, IsArgument, IsArguments, IsDirective, IsDirectives, IsDefault, IsVariableDefinition, IsVariables, IsAlias, IsSelection, IsOptionalSelectionSet, IsSelectionSet, AreSelections, IsDefinition, IsDocument, Over}
+use Rattle.graphql_grammar.specs.Grammar.{IsLocated, Token, Is, IsValue, AreItems, AreFields, Each, Optional, Several, Listed, IsArgument, IsArguments, IsDirective, IsDirectives, IsDefault, IsVariableDefinition, IsVariables, IsAlias, IsSelection, IsOptionalSelectionSet, IsSelectionSet, AreSelections, IsDefinition, IsType, Over}
 use Rattle.graphql_nodes.specs.declared.kind.NodeKind.{NodeKind}
 use Rattle.graphql_nodes.specs.declared.kind.NodeKind.TheVariants as kind
-use Rattle.graphql_nodes.specs.Nodes.{Node, Label, Typed, over, if_present, each, value_nodes, items_nodes, fields_nodes, argument_nodes, arguments_nodes, directive_nodes, directives_nodes, variable_nodes, variables_nodes, alias_nodes, selection_nodes, optional_nodes, selections_nodes, definition_nodes, document_nodes, nodes_at}
+use Rattle.graphql_nodes.specs.Nodes.{Node, Label, Typed, over, if_present, each, value_nodes, items_nodes, fields_nodes, argument_nodes, arguments_nodes, directive_nodes, directives_nodes, variable_nodes, variables_nodes, alias_nodes, selection_nodes, optional_nodes, selections_nodes, definition_nodes, document_nodes, nodes_at, type_nodes}
 use Rattle.graphql_nodes.specs.laws.SpanLaws.{IsPlaceOf, LiesIn, NodesLieIn}
 use Rattle.graphql_lexical.proofs.Public.{last_next}
 
@@ -91,13 +91,13 @@ module _ (source : List ℕ) where
     parts_lie : Lie h.front × Lie h.back
     parts_lie = all_of_each (λ t. LiesIn source t.span) h.front h.back (subst Lie h.whole lie)
 
-    front_lies : Lie h.front
+    pub front_lies : Lie h.front
     front_lies = parts_lie.0
 
 module _ {C F : Type 0} (S : Scalars C F) (source : List ℕ) where
   -- the nodes lie in the source if the tokens do
-  record Within (ts : List Lexeme) (ns : List (Node C)) : Type 0 where
-    lie : Lie source ts → NodesLieIn source ns
+  pub record Within (ts : List Lexeme) (ns : List (Node C)) : Type 0 where
+    pub lie : Lie source ts → NodesLieIn source ns
 
   -- tokens that have no node
   none : (ts : List Lexeme) → Within ts []
@@ -187,9 +187,11 @@ module _ {C F : Type 0} (S : Scalars C F) (source : List ℕ) where
     fields_lie free ts (object_field w v p fs) h =
         let inner = after ts h _ (λ q. after h.back q _ (λ r. joined q.back r (nodes_at v p) (fields_nodes fs)
         (lies_at free r.front v p) (fields_lie free r.back fs))) in
-        record { lie = λ l. (token_lies source h.front w.span _ w.item h.first (front_lies source ts h l), inner.lie l) }
+        record {
+          lie = λ l. (token_lies source h.front w.span _ w.item h.first (front_lies source ts h l), inner.lie l);
+        }
 
-  value_lies : (free : Bool) (ts : List Lexeme) (v : Located (Value C)) → IsLocated (IsValue S free) v ts
+  pub value_lies : (free : Bool) (ts : List Lexeme) (v : Located (Value C)) → IsLocated (IsValue S free) v ts
       → Within ts (value_nodes v)
   value_lies free ts v h = lies_at free ts v.item v.span h
 
@@ -206,9 +208,11 @@ module _ {C F : Type 0} (S : Scalars C F) (source : List ℕ) where
   arguments_lie ts a h = above ts _ a.span _ _ (whole_lies source ts a.span h.1)
       (listed_lie _ _ (IsArgument S) argument_nodes argument_lies ts a.item h.0)
 
-  directive_lies : (ts : List Lexeme) (d : Located (Directive C)) → IsLocated (IsDirective S) d ts → Within ts (directive_nodes d)
+  directive_lies : (ts : List Lexeme) (d : Located (Directive C)) → IsLocated (IsDirective S) d ts
+      → Within ts (directive_nodes d)
   unfolding directive_nodes
-  directive_lies ts d h = above ts _ d.span _ _ (whole_lies source ts d.span h.1) (after ts h.0 _ (λ q. after h.0.back q _
+  directive_lies ts d h = above ts _ d.span _ _ (whole_lies source ts d.span h.1)
+      (after ts h.0 _ (λ q. after h.0.back q _
       (optional_lies (IsArguments S) arguments_nodes arguments_lie q.back d.item.arguments)))
 
   directives_lie : (ts : List Lexeme) (ds : Directives C) → IsDirectives S ds ts → Within ts (directives_nodes ds)
@@ -218,6 +222,9 @@ module _ {C F : Type 0} (S : Scalars C F) (source : List ℕ) where
 
   -- ---- variable definitions
 
+  pub type_lies : (ts : List Lexeme) (type : Located TypeRef) → IsLocated IsType type ts → Within ts (type_nodes type)
+  type_lies ts type h = leaf ts kind.Type type.span (Typed type.item) h.1
+
   default_lies : (ts : List Lexeme) (v : Located (Value C)) → IsDefault S v ts → Within ts (value_nodes v)
   default_lies ts v h = after ts h (value_nodes v) (value_lies false h.back v)
 
@@ -225,12 +232,12 @@ module _ {C F : Type 0} (S : Scalars C F) (source : List ℕ) where
       → Within ts (variable_nodes v)
   unfolding variable_nodes
   variable_lies ts v h =
-      let types = over kind.Type v.of_type.span (Typed v.of_type.item) [] in
+      let types = type_nodes v.of_type in
       let others = if_present value_nodes v.default ++ directives_nodes v.directives in
       above ts _ v.name.span _ (types ++ others)
       (λ l. whole_lies source h.front v.name.span h.first.1 (front_lies source ts h l))
       (after ts h _ (λ colon. after h.back colon _ (λ type. joined colon.back type types others
-      (λ t. leaf type.front kind.Type v.of_type.span (Typed v.of_type.item) t.1)
+      (λ t. type_lies type.front v.of_type t)
       (λ rest. joined type.back rest _ _
       (optional_lies (IsDefault S) value_nodes default_lies rest.front v.default)
       (directives_lie rest.back v.directives)))))
@@ -278,7 +285,7 @@ module _ {C F : Type 0} (S : Scalars C F) (source : List ℕ) where
     selections_lie ts (selection s ss) h =
         joined ts h _ _ (selection_lies h.front s) (selections_lie h.back ss)
 
-  -- ---- documents
+  -- ---- definitions
 
   definition_lies : (ts : List Lexeme) (d : Definition C) → IsDefinition S d ts → Within ts (definition_nodes d)
   unfolding definition_nodes directives_nodes
@@ -287,7 +294,8 @@ module _ {C F : Type 0} (S : Scalars C F) (source : List ℕ) where
       (subst (λ ds. Within ts (definition_nodes (tree.Operation type name None ds ss p))) (sym d)
       (above ts _ p _ _ (whole_lies source ts p e) (set_lies ts ss h)))
   definition_lies ts (tree.Operation type name variables ds ss p) (inr h, e) =
-      above ts _ p _ _ (whole_lies source ts p e) (after ts h _ (λ named. after h.back named _ (λ r. joined named.back r _ _
+      above ts _ p _ _ (whole_lies source ts p e)
+      (after ts h _ (λ named. after h.back named _ (λ r. joined named.back r _ _
       (optional_lies (IsVariables S) variables_nodes variables_lie r.front variables)
       (λ body. joined r.back body _ _ (directives_lie body.front ds) (set_lies body.back ss)))))
   definition_lies ts (tree.Fragment name condition ds ss p) h =
@@ -295,9 +303,7 @@ module _ {C F : Type 0} (S : Scalars C F) (source : List ℕ) where
       (λ typed. after named.back typed _
       (λ body. joined typed.back body _ _ (directives_lie body.front ds) (set_lies body.back ss)))))
 
-  pub nodes_lie : (ts : List Lexeme) (ds : List (Definition C)) → Cut source ts → IsDocument S ds ts
-      → NodesLieIn source (document_nodes ds)
+  pub definitions_lie : (ts : List Lexeme) (ds : List (Definition C)) → Several (IsDefinition S) ds ts
+      → Within ts (document_nodes ds)
   unfolding document_nodes
-  nodes_lie ts ds c h =
-      (before ts h _ (several_lie (IsDefinition S) definition_nodes definition_lies h.front ds)).lie
-      (tokens_lie source ts c)
+  definitions_lie = several_lie (IsDefinition S) definition_nodes definition_lies

@@ -1,21 +1,21 @@
 -- What is counted of a document's nodes is no more than what is counted of its tokens, where this holds of each node
 -- and the tokens that are its own.
-use Rattle.std.proofs.Common.{ℕ, Bool, true, false, ◌≡◌, ◌≤◌, ◌∷◌, [], List, ◌++◌, Option, Some, None, Ok, inl, inr, refl, sym, ap, ◌∙◌, subst, arith, rules}
+use Rattle.std.proofs.Common.{ℕ, Bool, true, false, ◌≡◌, ◌≤◌, ◌∷◌, [], List, ◌++◌, Option, Some, None, Ok, inl, inr, sym, ap, ◌∙◌, subst, arith, rules}
 use Rattle.std.specs.List.{sum_by}
 use Rattle.std.proofs.lemmas.List.Sums.{sum_by-cons, sum_by-append}
 use Rattle.graphql_lexical.specs.declared.kind.Kind.{Kind}
-use Rattle.graphql_lexical.specs.declared.kind.Kind.TheVariants.{Name, Dollar, At, CurlyOpen, Ellipsis, EndOfFile}
+use Rattle.graphql_lexical.specs.declared.kind.Kind.TheVariants.{Name, Dollar, At, CurlyOpen, Ellipsis}
 use Rattle.graphql_lexical.specs.Place.{Span}
 use Rattle.graphql_lexical.specs.Cutting.{Lexeme}
 use Rattle.graphql_grammar.specs.Tokens.{Text, Located, Word}
 use Rattle.graphql_grammar.specs.Tree as tree
 use Rattle.graphql_grammar.specs.Tree.{Scalars, TypeRef, Value, Items, no_items, item, ObjectFields, no_fields, object_field, Argument, Arguments, Directive, Directives, VariableDefinition, Variables, Selection, Selections, no_selections, selection, OptionalSelections, absent, present, Definition}
 use Rattle.graphql_lexical.specs.Parts.{◌·◌}
-use Rattle.graphql_grammar.specs.Grammar.{IsLocated, Token, Is, IsWord, Says, IsScalarKind, IsValue, AreItems, AreFields, Each, Optional, Several, Listed, IsType, IsArgument, IsArguments, IsDirective, IsDirectives, IsDefault, IsVariableDefinition, IsVariables, IsAlias, IsSelection, IsOptionalSelectionSet, IsSelectionSet, AreSelections, IsDefinition, IsDocument}
+use Rattle.graphql_grammar.specs.Grammar.{IsLocated, Token, Is, IsWord, Says, IsScalarKind, IsValue, AreItems, AreFields, Each, Optional, Several, Listed, IsType, IsArgument, IsArguments, IsDirective, IsDirectives, IsDefault, IsVariableDefinition, IsVariables, IsAlias, IsSelection, IsOptionalSelectionSet, IsSelectionSet, AreSelections, IsDefinition}
 use Rattle.graphql_grammar.proofs.Public.{token_in, name_in, row_front, row_right}
 use Rattle.graphql_nodes.specs.declared.kind.NodeKind.{NodeKind}
 use Rattle.graphql_nodes.specs.declared.kind.NodeKind.TheVariants as kind
-use Rattle.graphql_nodes.specs.Nodes.{Node, Label, Unnamed, Named, OnType, Typed, name_of, over, scalar_node, if_present, each, value_nodes, items_nodes, fields_nodes, argument_nodes, arguments_nodes, directive_nodes, directives_nodes, variable_nodes, variables_nodes, alias_nodes, selection_nodes, optional_nodes, selections_nodes, definition_nodes, document_nodes, nodes_at}
+use Rattle.graphql_nodes.specs.Nodes.{Node, Label, Unnamed, Named, OnType, Typed, name_of, over, scalar_node, if_present, each, value_nodes, items_nodes, fields_nodes, argument_nodes, arguments_nodes, directive_nodes, directives_nodes, variable_nodes, variables_nodes, alias_nodes, selection_nodes, optional_nodes, selections_nodes, definition_nodes, document_nodes, nodes_at, type_nodes}
 use Rattle.graphql_nodes.proofs.Splits.{node_over}
 
 abbrev pub IsUntyped : Label → Type 0
@@ -205,11 +205,11 @@ module _ {C F : Type 0} (S : Scalars C F) (measure : Node C → ℕ) (weight : L
         → Within ts (fields_nodes fs)
     fields_within free ts no_fields h = none ts
     fields_within free ts (object_field w v p fs) h =
-        headed_before ts h (word_one _) kind.Key w.span _ (nodes_at v p) (fields_nodes fs) tt
+        headed_before ts h (word_one _) kind.ObjectField w.span _ (nodes_at v p) (fields_nodes fs) tt
         (λ q. after h.back q _ (λ r. joined q.back r (nodes_at v p) (fields_nodes fs)
         (λ k. within_at free r.front v p k.0) (fields_within free r.back fs)))
 
-  value_within : (free : Bool) (ts : List Lexeme) (v : Located (Value C)) → IsLocated (IsValue S free) v ts
+  pub value_within : (free : Bool) (ts : List Lexeme) (v : Located (Value C)) → IsLocated (IsValue S free) v ts
       → Within ts (value_nodes v)
   value_within free ts v h = within_at free ts v.item v.span h.0
 
@@ -224,7 +224,8 @@ module _ {C F : Type 0} (S : Scalars C F) (measure : Node C → ℕ) (weight : L
   unfolding arguments_nodes
   arguments_within ts a h = listed_within _ _ (IsArgument S) argument_nodes argument_within _ _ ts a.item h.0
 
-  directive_within : (ts : List Lexeme) (d : Located (Directive C)) → IsLocated (IsDirective S) d ts → Within ts (directive_nodes d)
+  directive_within : (ts : List Lexeme) (d : Located (Directive C)) → IsLocated (IsDirective S) d ts
+      → Within ts (directive_nodes d)
   unfolding directive_nodes
   directive_within ts d h = headed ts h.0 (is_one At) _ _ _ _ tt (λ q. after h.0.back q _
       (optional_within (IsArguments S) arguments_nodes arguments_within q.back d.item.arguments))
@@ -236,15 +237,14 @@ module _ {C F : Type 0} (S : Scalars C F) (measure : Node C → ℕ) (weight : L
 
   -- ---- variable definitions
 
-  type_within : (ts : List Lexeme) (type : TypeRef) (p : Span) → IsType type ts
-      → Within ts (over kind.Type p (Typed type) [])
-  type_within ts type p h = record {
+  pub type_within : (ts : List Lexeme) (type : Located TypeRef) → IsLocated IsType type ts → Within ts (type_nodes type)
+  type_within ts type h = record {
     le = omega (
       arith,
-      weighs.types ts type p h,
+      weighs.types ts type.item type.span h.0,
       nothing.le,
       sum_by-cons measure
-          (node_over kind.Type p (Typed type) []) [],
+          (node_over kind.Type type.span (Typed type.item) []) [],
     );
   }
 
@@ -257,7 +257,7 @@ module _ {C F : Type 0} (S : Scalars C F) (measure : Node C → ℕ) (weight : L
   variable_within ts v h =
       let dollar = row_right ts (row_front (λ us k. k.0) ts h) in
       headed ts dollar (is_one Dollar) _ _ _ _ tt (λ name. after dollar.back name _ (λ colon. after name.back colon _
-      (λ type. joined colon.back type _ _ (λ t. type_within type.front v.of_type.item v.of_type.span t.0)
+      (λ type. joined colon.back type _ _ (λ t. type_within type.front v.of_type t)
       (λ rest. joined type.back rest _ _
       (optional_within (IsDefault S) value_nodes default_within rest.front v.default)
       (directives_within rest.back v.directives)))))
@@ -328,7 +328,7 @@ module _ {C F : Type 0} (S : Scalars C F) (measure : Node C → ℕ) (weight : L
     selections_within ts (selection s ss) h =
         joined ts h _ _ (selection_within h.front s) (selections_within h.back ss)
 
-  -- ---- documents
+  -- ---- definitions
 
   -- the opening bracket is a node's
   set_over : (ts : List Lexeme) (ss : Selections C) (k : NodeKind) (p : Span) (l : Label) → IsUntyped l
@@ -353,21 +353,7 @@ module _ {C F : Type 0} (S : Scalars C F) (measure : Node C → ℕ) (weight : L
       headed ts h.0 (says_one _) _ _ _ _ tt (λ named. after h.0.back named _ (λ typed. after named.back typed _
       (λ body. joined typed.back body _ _ (directives_within body.front ds) (set_within body.back ss))))
 
-  -- a document's tokens before its end
-  pub record Front (ts : List Lexeme) (ns : List (Node C)) : Type 0 where
-    pub front : List Lexeme
-    pub end : Lexeme
-    pub whole : ts ≡ front ++ (end ∷ [])
-    pub ends : end.kind ≡ EndOfFile
-    pub le : sum_by measure ns ≤ sum_by weight front
-
-  pub document_front : (ts : List Lexeme) (ds : List (Definition C)) → IsDocument S ds ts
-      → Front ts (document_nodes ds)
+  pub definitions_within : (ts : List Lexeme) (ds : List (Definition C)) → Several (IsDefinition S) ds ts
+      → Within ts (document_nodes ds)
   unfolding document_nodes
-  document_front ts ds h = record {
-    front = h.front;
-    end = token_in EndOfFile h.back h.second;
-    whole = h.whole ∙ ap (λ us. h.front ++ us) h.second.2;
-    ends = refl;
-    le = (several_within (IsDefinition S) definition_nodes definition_within h.front ds h.first).le;
-  }
+  definitions_within = several_within (IsDefinition S) definition_nodes definition_within

@@ -65,7 +65,7 @@ unfoldable mutual
   nodes_at tree.Null span = over kind.Null span Unnamed []
   nodes_at (tree.Scalar content) span = scalar_node content span ∷ []
   nodes_at (tree.Enum name) span = over kind.Enum span (named name span) []
-  nodes_at (tree.Variable name) span = over kind.Reference span (named name span) []
+  nodes_at (tree.Variable name) span = over kind.Variable span (named name span) []
   nodes_at (tree.ListOf items) span = over kind.List span Unnamed (items_nodes items)
   nodes_at (tree.Object fields) span = over kind.Object span Unnamed (fields_nodes fields)
 
@@ -75,7 +75,7 @@ unfoldable mutual
 
   pub fields_nodes : {C : Type 0} → ObjectFields C → List (Node C)
   fields_nodes no_fields = []
-  fields_nodes (object_field key value span fields) = over kind.Key key.span (Named key) (nodes_at value span)
+  fields_nodes (object_field key value span fields) = over kind.ObjectField key.span (Named key) (nodes_at value span)
       ++ fields_nodes fields
 
 abbrev pub value_nodes : {C : Type 0} → Located (Value C) → List (Node C)
@@ -99,13 +99,16 @@ module _ {C : Type 0} where
   unfoldable pub directives_nodes : Directives C → List (Node C)
   directives_nodes ds = if_present (each directive_nodes) ds
 
+  -- of a type that stands there
+  abbrev pub type_nodes : Located TypeRef → List (Node C)
+  type_nodes type = over kind.Type type.span (Typed type.item) []
+
   unfoldable pub variable_nodes : VariableDefinition C → List (Node C)
-  variable_nodes v = over kind.Variable v.name.span (Named v.name)
-      (over kind.Type v.of_type.span (Typed v.of_type.item) []
-      ++ (if_present value_nodes v.default ++ directives_nodes v.directives))
+  variable_nodes v = over kind.VariableDefinition v.name.span (Named v.name)
+      (type_nodes v.of_type ++ (if_present value_nodes v.default ++ directives_nodes v.directives))
 
   unfoldable pub variables_nodes : Variables C → List (Node C)
-  variables_nodes v = over kind.Variables v.span Unnamed (each variable_nodes v.item)
+  variables_nodes v = over kind.VariableDefinitions v.span Unnamed (each variable_nodes v.item)
 
   unfoldable pub alias_nodes : Word → List (Node C)
   alias_nodes alias = over kind.Alias alias.span (Named alias) []
@@ -116,9 +119,9 @@ module _ {C : Type 0} where
         (if_present alias_nodes alias
         ++ (if_present arguments_nodes arguments ++ (directives_nodes directives ++ optional_nodes selections)))
     selection_nodes (tree.FragmentSpread name directives span) =
-        over kind.Spread span (Named name) (directives_nodes directives)
+        over kind.FragmentSpread span (Named name) (directives_nodes directives)
     selection_nodes (tree.InlineFragment condition directives selections span) =
-        over kind.Inline span (name_of condition)
+        over kind.InlineFragment span (name_of condition)
         (directives_nodes directives ++ selections_nodes selections)
 
     pub optional_nodes : OptionalSelections C → List (Node C)
@@ -134,7 +137,7 @@ module _ {C : Type 0} where
       over (operation_kind type) span (name_of name)
       (if_present variables_nodes variables ++ (directives_nodes directives ++ selections_nodes selections))
   definition_nodes (tree.Fragment name condition directives selections span) =
-      over kind.Fragment span (OnType name condition)
+      over kind.FragmentDefinition span (OnType name condition)
       (directives_nodes directives ++ selections_nodes selections)
 
   -- of a document

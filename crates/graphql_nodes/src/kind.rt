@@ -12,11 +12,11 @@ pub enum NodeKind {
     /// A long-lived operation.
     Subscription,
     /// The definition of a fragment.
-    Fragment,
+    FragmentDefinition,
     /// The variable definitions of an operation.
-    Variables,
+    VariableDefinitions,
     /// A variable definition, by its name.
-    Variable,
+    VariableDefinition,
     /// The type of a variable.
     Type,
     /// A field.
@@ -24,9 +24,9 @@ pub enum NodeKind {
     /// The alias of a field.
     Alias,
     /// The use of a fragment by its name.
-    Spread,
+    FragmentSpread,
     /// A fragment without a name.
-    Inline,
+    InlineFragment,
     /// A directive.
     Directive,
     /// The arguments of a field or a directive.
@@ -40,13 +40,13 @@ pub enum NodeKind {
     /// A value that is a name of an enum.
     Enum,
     /// A value that is a variable.
-    Reference,
+    Variable,
     /// A value that is a list.
     List,
     /// A value that is an object.
     Object,
     /// A field of an object, by its key.
-    Key,
+    ObjectField,
 }
 
 impl NodeKind {
@@ -58,24 +58,24 @@ impl NodeKind {
             NodeKind::Query => "query",
             NodeKind::Mutation => "mutation",
             NodeKind::Subscription => "subscription",
-            NodeKind::Fragment => "fragment",
-            NodeKind::Variables => "variables",
-            NodeKind::Variable => "variable",
+            NodeKind::FragmentDefinition => "fragment",
+            NodeKind::VariableDefinitions => "variables",
+            NodeKind::VariableDefinition => "variable",
             NodeKind::Type => "type",
             NodeKind::Field => "field",
             NodeKind::Alias => "alias",
-            NodeKind::Spread => "spread",
-            NodeKind::Inline => "inline",
+            NodeKind::FragmentSpread => "spread",
+            NodeKind::InlineFragment => "inline",
             NodeKind::Directive => "directive",
             NodeKind::Arguments => "arguments",
             NodeKind::Argument => "argument",
             NodeKind::Null => "null",
             NodeKind::Scalar => "scalar",
             NodeKind::Enum => "enum",
-            NodeKind::Reference => "reference",
+            NodeKind::Variable => "reference",
             NodeKind::List => "list",
             NodeKind::Object => "object",
-            NodeKind::Key => "key",
+            NodeKind::ObjectField => "key",
         }
     }
 }

@@ -29,7 +29,8 @@ no_tree source _ (grammatical {ts} {before} {t} cut refused begins ends) documen
     w.ends (record {
       more = w.after;
       tree = document.0;
-      document = subst (λ (l : List Lexeme). IsDocument default_scalars document.0 l) (same ∙ whole) document.1.document;
+      document = subst (λ (l : List Lexeme). IsDocument default_scalars document.0 l) (same ∙ whole)
+          document.1.document;
       spelled = subst (λ (l : List Lexeme). AllByRecursion IsSpelled l) whole (cut_spelled source ts cut);
     })
 

@@ -14,4 +14,5 @@ fault_text fault = position_text fault.span.start ++ (codes ": " ++ encode_utf8_
 -- nothing of a document, and of any other text its fault
 abbrev pub IsTold : List ℕ → Option (String Global) → Type 0
 IsTold source None = IsDocumentText source
-IsTold source (Some text) = (fault : Fault) × IsRefusal default_scalars source fault × (string_bytes text ≡ fault_text fault)
+IsTold source (Some text) = (fault : Fault) × IsRefusal default_scalars source fault
+    × (string_bytes text ≡ fault_text fault)

@@ -30,14 +30,18 @@ module _ {C : Type 0} (scalars : Scalars C Error) where
   pub record HasNoValue (source : List ℕ) (fault : Fault) : Type 0 where
     pub none : (value : Located (Value C)) → BeginsWith source value → ⊥
     pub lexical : (error : LexicalError) (at : Place) → Breaks source error at → fault ≡ lexical_fault error at
-    pub grammatical : (lexemes : List Lexeme) → Cut source lexemes → (left : List Lexeme) × Refuses (IsLocated (IsValue scalars true)) (ValueRefusedAt UnexpectedEndOfFile unexpected scalars true) fault lexemes left
+    pub grammatical : (lexemes : List Lexeme) → Cut source lexemes → (left : List Lexeme)
+        × Refuses (IsLocated (IsValue scalars true)) (ValueRefusedAt UnexpectedEndOfFile unexpected scalars true) fault
+        lexemes left
 
   -- The fault is that of the first of two texts that begins with no value.
   abbrev pub FirstFault : List ℕ → List ℕ → Fault → Type 0
-  FirstFault one other fault = HasNoValue one fault ⊎ (((value : Located (Value C)) × BeginsWith one value) × HasNoValue other fault)
+  FirstFault one other fault = HasNoValue one fault
+      ⊎ (((value : Located (Value C)) × BeginsWith one value) × HasNoValue other fault)
 
   -- Both texts begin with values, which are equal regardless of their places, or are not, as the result says.
-  pub record AreCompared {S : Type 0} (content : S → C) (equal : S → S → Bool) (one other : List ℕ) (answer : Bool) : Type 0 where
+  pub record AreCompared {S : Type 0} (content : S → C) (equal : S → S → Bool) (one other : List ℕ) (answer : Bool)
+      : Type 0 where
     pub value : Spanning (InputValue S)
     pub other_value : Spanning (InputValue S)
     pub begins : BeginsWith one (view_value content value)

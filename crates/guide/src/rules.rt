@@ -33,10 +33,10 @@ pub fn broken_rules(alloc: Global, source: &str) -> Result<Vec<String>, ParseFai
         match nodes[i].kind {
             NodeKind::Arguments => note_repeated(alloc, parts, &mut found)?,
             NodeKind::Query | NodeKind::Mutation | NodeKind::Subscription => {
-                let names = names_of(alloc, parts, NodeKind::Variable)?;
+                let names = names_of(alloc, parts, NodeKind::VariableDefinition)?;
                 note_unknown(
                     parts,
-                    NodeKind::Reference,
+                    NodeKind::Variable,
                     &names,
                     "undefined variable",
                     &mut found,
@@ -45,10 +45,10 @@ pub fn broken_rules(alloc: Global, source: &str) -> Result<Vec<String>, ParseFai
             _ => {}
         }
     }
-    let names = names_of(alloc, &nodes, NodeKind::Fragment)?;
+    let names = names_of(alloc, &nodes, NodeKind::FragmentDefinition)?;
     note_unknown(
         &nodes,
-        NodeKind::Spread,
+        NodeKind::FragmentSpread,
         &names,
         "unknown fragment",
         &mut found,

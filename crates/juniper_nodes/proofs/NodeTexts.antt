@@ -1,18 +1,19 @@
--- The texts of a document's nodes are together no longer, in bytes, than its source, where what each scalar means is
--- no longer than its token.
+-- The texts of the nodes of a document, a value or a type are together no longer, in bytes, than its source, where
+-- what each scalar means is no longer than its token.
 use Rattle.std.proofs.Common.{◌≡◌, ℕ, ◌+◌, ◌≤◌, None, List, [], ◌∷◌, length, refl, ap, subst, ◌∙◌, arith, rules}
 use Rattle.std.specs.Prelude.{codes, encode_utf8_all}
 use Rattle.std.specs.List.{sum_by}
 use Rattle.std.proofs.lemmas.List.Sums.{sum_by-cons, sum_by-append}
 use Rattle.graphql_lexical.specs.declared.kind.Kind.{Kind}
+use Rattle.graphql_lexical.specs.declared.kind.Kind.TheVariants.{EndOfFile}
 use Rattle.graphql_lexical.specs.Cutting.{Lexeme, Cut}
 use Rattle.graphql_lexical.proofs.Public.{cut_front}
-use Rattle.graphql_grammar.specs.Tree.{TypeRef, NamedType, ListType, NonNullType, Definition}
+use Rattle.graphql_grammar.specs.Tree.{TypeRef, NamedType, ListType, NonNullType}
 use Rattle.graphql_lexical.specs.Parts.{◌·◌}
-use Rattle.graphql_grammar.specs.Grammar.{IsType, IsDocument}
-use Rattle.graphql_nodes.specs.Nodes.{Node, Label, Unnamed, Named, OnType, Typed, document_nodes}
+use Rattle.graphql_grammar.specs.Grammar.{Is, IsType}
+use Rattle.graphql_nodes.specs.Nodes.{Node, Label, Unnamed, Named, OnType, Typed}
 use Rattle.graphql_nodes.specs.Types.{type_text}
-use Rattle.graphql_nodes.proofs.Public.{IsUntyped, Weighs, document_front}
+use Rattle.graphql_nodes.proofs.Public.{HasNodes, IsUntyped, Weighs, front_of}
 use Rattle.juniper_values.specs.Text.{Text}
 use Rattle.juniper_values.specs.Scalar.{Content, boolean, Reading}
 use Rattle.juniper_tree.specs.Scalars.{stated}
@@ -57,7 +58,7 @@ type_is_short ts (NonNullType type) (h, n) =
       size_joins (type_text type) (codes "!"),
     )
 
--- ---- documents
+-- ---- sources
 
 abbrev measure : Node Content → ℕ
 measure n = size (text_of_node n)
@@ -81,20 +82,21 @@ texts_size [] = search rules
 texts_size (n ∷ ns) = omega
     (arith, size_joins (text_of_node n) (node_texts ns), sum_by-cons measure n ns, texts_size ns)
 
+-- of a part that R recognizes, and then the end
 pub texts_are_short : (reading : Kind → Text → Reading) → ReadsShort reading
-    → (source : Text) (ts : List Lexeme) (ds : List (Definition Content)) → Cut source ts
-    → IsDocument (stated reading boolean) ds ts
-    → length (encode_utf8_all (node_texts (document_nodes ds))) ≤ length (encode_utf8_all source)
-texts_are_short reading short source ts ds c h =
-    let front = document_front (stated reading boolean) measure weight (texts_weigh reading short) ts ds h in
+    → {A : Type 0} (R : A → List Lexeme → Type 0) (nodes : A → List (Node Content))
+    → HasNodes (stated reading boolean) R nodes
+    → (source : Text) (ts : List Lexeme) (x : A) → Cut source ts → (R x · Is EndOfFile) ts
+    → length (encode_utf8_all (node_texts (nodes x))) ≤ length (encode_utf8_all source)
+texts_are_short reading short R nodes has source ts x c h =
+    let front = front_of (stated reading boolean) R nodes has ts x h measure weight (texts_weigh reading short) in
     let parts = cut_front source front.front front.end [] 0 (by_places source _ (subst (Cut source) front.whole c)) in
     let tokens = leads_bytes source 0 front.front parts.0 parts.1 in
     omega (
       arith,
       front.le,
       tokens,
-      texts_size (document_nodes ds),
-      size_is
-          (node_texts (document_nodes ds)),
+      texts_size (nodes x),
+      size_is (node_texts (nodes x)),
       size_is source,
     )

@@ -4,8 +4,9 @@ use Rattle.std.specs.Prelude.{encode_utf8_all}
 use Rattle.graphql_lexical.specs.declared.kind.Kind.TheVariants.{String, BlockString, Int}
 use Rattle.graphql_lexical.specs.Cutting.{Lexeme, Cut}
 use Rattle.graphql_grammar.specs.Tree.{Definition}
-use Rattle.graphql_grammar.specs.Grammar.{IsDocument}
+use Rattle.graphql_grammar.specs.Grammar.{IsDefinition, IsDocument, Several}
 use Rattle.graphql_nodes.specs.Nodes.{document_nodes}
+use Rattle.graphql_nodes.proofs.Public.{definitions_have_nodes}
 use Rattle.juniper_values.specs.Text.{Text}
 use Rattle.juniper_values.specs.Scalar.{Content, integer, text, boolean, custom, Reading}
 use Rattle.juniper_values.specs.Default.{default_reading}
@@ -43,4 +44,7 @@ literal_is_short k t (inr (inr (inr s))) c e =
 pub short_texts : (source : Text) (ts : List Lexeme) (ds : List (Definition Content)) → Cut source ts
     → IsDocument (stated literal_reading boolean) ds ts
     → length (encode_utf8_all (node_texts (document_nodes ds))) ≤ length (encode_utf8_all source)
-short_texts = texts_are_short literal_reading literal_is_short
+short_texts =
+    let scalars = stated literal_reading boolean in
+    texts_are_short literal_reading literal_is_short (Several (IsDefinition scalars)) document_nodes
+    (definitions_have_nodes scalars)

@@ -49,7 +49,9 @@ reads_bytes (c ∷ cs) n t r none =
     let whole = take n (c ∷ cs) in
     let some = reads_size (c ∷ cs) n t.kind t.text r none in
     let text : size t.text ≤ size whole =
-    subst (λ (u : Text). size u ≤ size whole) (sym (spells_token whole t.kind t.text (read_token c cs n t.kind t.text r).1).1) (between_is_short (quotes (spelling t.kind)) whole) in
+    subst (λ (u : Text). size u ≤ size whole)
+    (sym (spells_token whole t.kind t.text (read_token c cs n t.kind t.text r).1).1)
+    (between_is_short (quotes (spelling t.kind)) whole) in
     let bytes : 1 ≤ size whole = omega (arith, some.0, some.1, some_bytes whole, length-take-le n (c ∷ cs) some.1) in
     one_or (size t.text) (size whole) bytes text
 

@@ -14,7 +14,7 @@ use Rattle.juniper_tree.specs.Cases.{SeesValues}
 
 -- the nodes of an object's field
 abbrev pub field_nodes : {C : Type 0} → Word × Located (Value C) → List (Node C)
-field_nodes field = over kind.Key field.0.span (Named field.0) (value_nodes field.1)
+field_nodes field = over kind.ObjectField field.0.span (Named field.0) (value_nodes field.1)
 
 pub items_in_row : {C : Type 0} (vs : List (Located (Value C))) → items_nodes (items_of vs) ≡ each value_nodes vs
 unfolding nodes_at items_nodes fields_nodes each
@@ -51,7 +51,7 @@ module _ {S C : Type 0} (content : S → C) (sees : SeesValues content) where
   enum-nodes x name e = seen x _ _ e (sees.enum_value name)
 
   pub variable-nodes : (x : Spanning (InputValue S)) (name : String Global) → x.item ≡ V.Variable name
-      → nodes_of x ≡ over kind.Reference (view_span x.span) (named (text_of name) (view_span x.span)) []
+      → nodes_of x ≡ over kind.Variable (view_span x.span) (named (text_of name) (view_span x.span)) []
   unfolding nodes_at items_nodes fields_nodes
   variable-nodes x name e = seen x _ _ e (sees.variable name)
 

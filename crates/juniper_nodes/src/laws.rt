@@ -12,5 +12,7 @@ ghost use Rattle.juniper_nodes.specs.NodeTexts.{node_texts};
 /// The texts of a document's nodes are together no longer than the document's source, in bytes of UTF-8: of each type
 /// how it is written, and of each String what it means.
 pub fn short_texts()
-    ensures { (source : List ℕ) (ts : List Lexeme) (a : List (Definition Content)) → Cut source ts → IsDocument (stated literal_reading boolean) a ts → length (encode_utf8_all (node_texts (document_nodes a))) ≤ length (encode_utf8_all source) }
+    ensures { (source : List ℕ) (ts : List Lexeme) (a : List (Definition Content)) → Cut source ts
+        → IsDocument (stated literal_reading boolean) a ts
+        → length (encode_utf8_all (node_texts (document_nodes a))) ≤ length (encode_utf8_all source) }
 {}

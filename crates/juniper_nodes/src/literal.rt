@@ -1,6 +1,5 @@
 //! A scalar type that keeps each token as it is written.
 ghost use Rattle.std.specs.Prelude.{◌≡◌, ◌&&◌, Some, IfOk};
-ghost use Rattle.std.specs.Fmt.{DisplaysOnOk};
 ghost use Rattle.std.specs.Ordering.{int_eq};
 ghost use Rattle.std.specs.Str.{chars, encode_utf8_all};
 ghost use Rattle.graphql_lexical.specs.declared.kind.Kind.TheVariants.{Int, String as Quoted, BlockString as Block};
@@ -85,7 +84,8 @@ fn same_int(a: &IntLiteral, b: &IntLiteral) -> bool
 }
 
 fn same_literal(a: &StringLiteral, b: &StringLiteral) -> bool
-    ensures { result ≡ (same_text (text_of a.now.written) (text_of b.now.written) && same_text (text_of a.now.value) (text_of b.now.value)) }
+    ensures { result ≡ (same_text (text_of a.now.written) (text_of b.now.written) && same_text (text_of a.now.value)
+        (text_of b.now.value)) }
 {
     same_string(&a.written, &b.written) && same_string(&a.value, &b.value)
 }
@@ -114,8 +114,8 @@ impl fmt::Display for Literal {
     }
 }
 
-/// A Float is kept as it is written, and so is an Int beyond 32 bits. An Int of 32 bits, a String and a block string are
-/// kept with what the default type reads them as; a String that it refuses is refused.
+/// A Float is kept as it is written, and so is an Int beyond 32 bits. An Int of 32 bits, a String and a block string
+/// are kept with what the default type reads them as; a String that it refuses is refused.
 impl ParseScalarValue<Literal> for Literal {
     ghost use Rattle.juniper_nodes.specs.Literal.{literal_reading};
 
@@ -134,7 +134,8 @@ impl ParseScalarValue<Literal> for Literal {
 }
 
 fn read_int(alloc: Global, text: &str) -> ParseScalarResult<Literal>
-    ensures { MeetsReading literal_content (int_reading (chars text.now) (default_reading Int (chars text.now))) result }
+    ensures { MeetsReading literal_content (int_reading (chars text.now) (default_reading Int (chars text.now)))
+        result }
 {
     match DefaultScalarValue::from_str(alloc, ScalarToken::Int(text)) {
         Ok(DefaultScalarValue::Int(value)) => Ok(Literal::Int(IntLiteral {
@@ -148,7 +149,8 @@ fn read_int(alloc: Global, text: &str) -> ParseScalarResult<Literal>
 }
 
 fn read_string(alloc: Global, text: &str) -> ParseScalarResult<Literal>
-    ensures { MeetsReading literal_content (string_reading (of_string (chars text.now)) (default_reading Quoted (chars text.now))) result }
+    ensures { MeetsReading literal_content
+        (string_reading (of_string (chars text.now)) (default_reading Quoted (chars text.now))) result }
 {
     match DefaultScalarValue::from_str(alloc, ScalarToken::String(text)) {
         Ok(DefaultScalarValue::String(value)) => Ok(Literal::String(StringLiteral {
@@ -161,7 +163,8 @@ fn read_string(alloc: Global, text: &str) -> ParseScalarResult<Literal>
 }
 
 fn read_block(alloc: Global, text: &str) -> ParseScalarResult<Literal>
-    ensures { MeetsReading literal_content (string_reading (of_block (chars text.now)) (default_reading Block (chars text.now))) result }
+    ensures { MeetsReading literal_content
+        (string_reading (of_block (chars text.now)) (default_reading Block (chars text.now))) result }
 {
     match DefaultScalarValue::from_str(alloc, ScalarToken::BlockString(text)) {
         Ok(DefaultScalarValue::String(value)) => Ok(Literal::BlockString(StringLiteral {
@@ -174,7 +177,8 @@ fn read_block(alloc: Global, text: &str) -> ParseScalarResult<Literal>
 }
 
 fn copied_string(alloc: Global, string: &StringLiteral) -> Result<StringLiteral, AllocError>
-    ensures { IfOk result (λ s. (text_of s.written ≡ text_of string.now.written) × (text_of s.value ≡ text_of string.now.value)) }
+    ensures { IfOk result (λ s. (text_of s.written ≡ text_of string.now.written)
+        × (text_of s.value ≡ text_of string.now.value)) }
 {
     Ok(StringLiteral {
         written: copied(alloc, &string.written)?,

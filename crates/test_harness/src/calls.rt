@@ -1,9 +1,9 @@
 //! Calls on a text: what they return, and what stands after them.
 //!
-//! The words say the kind, and then the calls, if the kind has any. The first line that is written says that the calls come
-//! now: an allocator that refuses requests counts them from there on. What is reported then goes into a buffer that was taken
-//! before. So the requests are those of the calls, and before them those of what they are made on; `not called` is reported
-//! where one of these is refused.
+//! The words say the kind, and then the calls, if the kind has any. The first line that is written says that the calls
+//! come now: an allocator that refuses requests counts them from there on. What is reported then goes into a buffer
+//! that was taken before. So the requests are those of the calls, and before them those of what they are made on; `not
+//! called` is reported where one of these is refused.
 
 use crate::{kinds, parses};
 use std::io::Read;

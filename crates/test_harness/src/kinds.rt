@@ -1,7 +1,7 @@
 //! The results of calls of each kind.
 //!
-//! Where memory ran out in a call, `Memory` is written, and then what was handed back, if anything. The error that memory ran
-//! out is returned where what the call is made on could not be made.
+//! Where memory ran out in a call, `Memory` is written, and then what was handed back, if anything. The error that
+//! memory ran out is returned where what the call is made on could not be made.
 
 mod answers;
 mod complexities;
@@ -26,7 +26,8 @@ use crate::write::Written;
 use juniper::DefaultScalarValue;
 use std::alloc::Global;
 
-/// Writes what calls of this kind on the text return. A kind that has several is given those that are made, a line each.
+/// Writes what calls of this kind on the text return. A kind that has several is given those that are made, a line
+/// each.
 pub fn write_answer(
     alloc: Global,
     out: &mut String,

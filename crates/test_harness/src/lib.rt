@@ -1,5 +1,5 @@
-//! What the program for tests does: `calls` makes calls of the library on a text and reports what they return, of the kinds
-//! that `kinds` has. `speed` measures how fast a text is read.
+//! What the program for tests does: `calls` makes calls of the library on a text and reports what they return, of the
+//! kinds that `kinds` has. `speed` measures how fast a text is read.
 #![tactic(auto)]
 
 pub mod calls;

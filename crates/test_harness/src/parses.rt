@@ -23,7 +23,8 @@ impl DefinitionSink<DefaultScalarValue> for Given {
     ghost holds = { λ _ _ _. Unit {0} };
 
     fn take(&mut self, definition: Definition<'_, DefaultScalarValue>) -> Result<(), AllocError>
-        ensures taken { OnOk result (Gains (λ _ _ _. Unit {0}) self.old self.new (view_definition default_content definition.entry ∷ [])) }
+        ensures taken { OnOk result (Gains (λ _ _ _. Unit {0}) self.old self.new
+            (view_definition default_content definition.entry ∷ [])) }
         ensures kept { OnErr result (Gains {C = Content} (λ _ _ _. Unit {0}) self.old self.new []) }
     {
         self.0 = self.0.saturating_add(1);

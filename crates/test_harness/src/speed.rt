@@ -1,7 +1,7 @@
 //! The speed of reading a text over and over: of each stage its best round.
 //!
-//! The words are the number of rounds, how often a round reads the text, and the one stage that is measured, by its name.
-//! Where they aren't there, each number is 1, and every stage is measured.
+//! The words are the number of rounds, how often a round reads the text, and the one stage that is measured, by its
+//! name. Where they aren't there, each number is 1, and every stage is measured.
 
 mod measured;
 

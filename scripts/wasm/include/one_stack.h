@@ -4,6 +4,8 @@
 #include "firthnapkin.h"
 #define parse_on_stack firthnapkin_parse
 #define parse_complexities_on_stack firthnapkin_parse_complexities
+#define parse_value_on_stack firthnapkin_parse_value
+#define parse_type_on_stack firthnapkin_parse_type
 #define message_on_stack firthnapkin_message
 #define excerpt_on_stack firthnapkin_excerpt
 #define tokens_on_stack firthnapkin_tokens

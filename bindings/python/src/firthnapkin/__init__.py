@@ -12,6 +12,7 @@ from .definitions import Fragment, Operation, VariableDefinition
 from .document import Document
 from .errors import ErrorDetail, ErrorKind, FirthnapkinError
 from .lexer import Token, TokenKind, Tokens, canonical, tokens
+from .literals import ParsedType, ParsedValue, parse_type, parse_value
 from .nodes import Kind, Node, Nodes
 from .parser import parse
 from .parts import Position
@@ -23,6 +24,7 @@ from .visitor import Step, Visitor
 __all__ = [
     "MAX_DEPTH", "Argument", "Complexity", "Directive", "Document", "EnumValue", "ErrorDetail", "ErrorKind", "Field",
     "FirthnapkinError", "Fragment", "FragmentSpread", "InlineFragment", "Kind", "Node", "Nodes", "Operation",
-    "Position", "Selection", "Step", "SyntaxPart", "SyntaxParts", "Token", "TokenKind", "Tokens", "Value", "Variable",
-    "VariableDefinition", "Visitor", "__version__", "canonical", "check", "parse", "tokens",
+    "ParsedType", "ParsedValue", "Position", "Selection", "Step", "SyntaxPart", "SyntaxParts", "Token", "TokenKind",
+    "Tokens", "Value", "Variable", "VariableDefinition", "Visitor", "__version__", "canonical", "check", "parse",
+    "parse_type", "parse_value", "tokens",
 ]  # fmt: skip

@@ -97,28 +97,54 @@ static PyObject *answer(builder *b, const whole *w, Py_ssize_t characters) {
     return w->status != FIRTHNAPKIN_OK || is_read_otherwise(b) ? none() : document_at_once(b, characters);
 }
 
-static PyObject *document_in(PyObject *module, PyObject *arguments) {
-    module_state *state = PyModule_GetState(module);
+/* What a call is given. */
+typedef struct {
     PyObject *source, *given, *origin;
-    package_limits limits;
-    Py_ssize_t characters, length;
+    Py_ssize_t characters;
     long long tokens;
+} arguments_of_call;
+
+static PyObject *parsed_in(PyObject *module, parsed_as as, const arguments_of_call *a) {
+    module_state *state = PyModule_GetState(module);
+    package_limits limits;
+    Py_ssize_t length;
+    long long tokens = a->tokens;
     char *bytes;
-    if (!PyArg_ParseTuple(arguments, "SnSOL:document", &source, &characters, &given, &origin, &tokens)) return NULL;
-    if (PyBytes_AsStringAndSize(source, &bytes, &length) != 0 || !are_limits(given, &limits)) return NULL;
+    if (PyBytes_AsStringAndSize(a->source, &bytes, &length) != 0 || !are_limits(a->given, &limits)) return NULL;
     if (!state->is_set) return PyErr_Format(PyExc_SystemError, "setup is to be called first");
     int64_t most = tokens < -1 ? -1 : tokens < UINT32_MAX ? tokens : UINT32_MAX;
     size_t counted = 0;
     PyThreadState *thread = PyEval_SaveThread();
-    whole w = within(&state->rules, (const uint8_t *)bytes, (size_t)length, &limits, most);
-    find_open(&w, (const uint8_t *)bytes, (size_t)length);
-    if (w.status == FIRTHNAPKIN_OK) w.status = count_for(&state->rules, (const uint8_t *)bytes, (size_t)length, &counted);
+    whole w = within(&state->rules, as, (const uint8_t *)bytes, (size_t)length, &limits, most);
+    if (as == AS_DOCUMENT) find_open(&w, (const uint8_t *)bytes, (size_t)length);
+    if (w.status == FIRTHNAPKIN_OK && as == AS_DOCUMENT) w.status = count_for(&state->rules, (const uint8_t *)bytes, (size_t)length, &counted);
     PyEval_RestoreThread(thread);
     builder b = {.state = state, .nodes = w.nodes, .count = w.nodes_count, .source = bytes, .texts = (const char *)w.texts,
-                 .length = (size_t)length, .is_ascii = characters == length, .counted = counted, .origin = origin};
-    PyObject *result = answer(&b, &w, characters);
+                 .length = (size_t)length, .is_ascii = a->characters == length, .is_document = as == AS_DOCUMENT,
+                 .counted = counted, .origin = a->origin};
+    PyObject *result = answer(&b, &w, a->characters);
     give_back(&w);
     return result;
+}
+
+static PyObject *document_in(PyObject *module, PyObject *arguments) {
+    arguments_of_call a;
+    if (!PyArg_ParseTuple(arguments, "SnSOL:document", &a.source, &a.characters, &a.given, &a.origin, &a.tokens)) return NULL;
+    return parsed_in(module, AS_DOCUMENT, &a);
+}
+
+PyDoc_STRVAR(literal_doc, "literal(source, characters, limits, origin, tokens, what, /)\n--\n\n"
+                          "Returns the ValueNode or the TypeNode that a source is, parsed as AS_VALUE, AS_CONSTANT or AS_TYPE.\n\n"
+                          "The other arguments are those of document, and so are the results, without those on operations and on\n"
+                          "what is open: graphql-core's own parser has to be called if the source isn't one value or one type.");
+
+static PyObject *literal(PyObject *module, PyObject *arguments) {
+    arguments_of_call a;
+    int what;
+    if (!PyArg_ParseTuple(arguments, "SnSOLi:literal", &a.source, &a.characters, &a.given, &a.origin, &a.tokens, &what))
+        return NULL;
+    if (what != AS_VALUE && what != AS_CONSTANT && what != AS_TYPE) return PyErr_Format(PyExc_ValueError, "%d is no literal", what);
+    return parsed_in(module, (parsed_as)what, &a);
 }
 
 static void forget(node_class *c) {
@@ -264,6 +290,7 @@ static PyObject *setup(PyObject *module, PyObject *arguments) {
 }
 
 static PyMethodDef methods[] = {{"document", document_in, METH_VARARGS, document_doc},
+                                {"literal", literal, METH_VARARGS, literal_doc},
                                 {"setup", setup, METH_VARARGS, setup_doc},
                                 {NULL, NULL, 0, NULL}};
 

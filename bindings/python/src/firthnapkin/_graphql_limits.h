@@ -9,8 +9,8 @@
 
 /* ---- tokens and comments */
 
-/* The tokens of a source and its end, or those before its first lexical error or before the first one too many. They have to
- * be freed, whatever the status. */
+/* The tokens of a source and its end, or those before its first lexical error or before the first token past the limit. They have
+ * to be freed, whatever the status. */
 static whole tokens_found(const uint8_t *source, size_t length, uint32_t most) {
     whole w = {.status = FIRTHNAPKIN_OUT_OF_MEMORY};
     size_t capacity, needed = at_first(length) + 16;
@@ -162,21 +162,22 @@ static firthnapkin_limits with_tokens(const firthnapkin_limits *limits, uint32_t
     return others;
 }
 
-static whole parse_within(const uint8_t *source, size_t length, const package_limits *limits, uint32_t tokens) {
+static whole parse_within(parsed_as as, const uint8_t *source, size_t length, const package_limits *limits, uint32_t tokens) {
     firthnapkin_limits others = with_tokens(&limits->call, tokens);
+    if (as != AS_DOCUMENT) return whole_as(as, source, length, &others);
     return document_whole(source, length, &others, &limits->sizes);
 }
 
 /* The nodes of a source whose tokens, and the comments and the end if they are looked at, are counted one by one. Otherwise as
  * with_few_tokens. */
-static whole counted_first(const counting_rules *rules, const uint8_t *source, size_t length, const package_limits *limits,
-                           int64_t most) {
+static whole counted_first(const counting_rules *rules, parsed_as as, const uint8_t *source, size_t length,
+                           const package_limits *limits, int64_t most) {
     whole cut = tokens_found(source, length, most < 0 ? 0 : (uint32_t)most);
     if (find_too_many(rules, &cut, source, most))
         cut.status = FIRTHNAPKIN_TOO_MANY_TOKENS;
     else if (cut.status != FIRTHNAPKIN_OUT_OF_MEMORY) {
         give_back(&cut);
-        return parse_within(source, length, limits, UINT32_MAX);
+        return parse_within(as, source, length, limits, UINT32_MAX);
     }
     return cut;
 }
@@ -184,25 +185,25 @@ static whole counted_first(const counting_rules *rules, const uint8_t *source, s
 /* The nodes of a source that keeps a limit on its tokens. Otherwise the status is FIRTHNAPKIN_TOO_MANY_TOKENS, and the error is
  * at the first token too many, or at the end. A limit of UINT32_MAX is none. A source whose tokens keep what the comments leave
  * of the limit is read once. */
-static whole with_few_tokens(const counting_rules *rules, const uint8_t *source, size_t length, const package_limits *limits,
-                             int64_t most) {
+static whole with_few_tokens(const counting_rules *rules, parsed_as as, const uint8_t *source, size_t length,
+                             const package_limits *limits, int64_t most) {
     size_t comments = rules->limits_comments && most < UINT32_MAX ? most_comments(source, length) : 0;
     bool is_counted = comments > 0 || (most < 0 && rules->limits_end);
-    if (!is_counted) return parse_within(source, length, limits, most < 0 ? 0 : (uint32_t)most);
-    if (most < 0 || comments > (uint64_t)most) return counted_first(rules, source, length, limits, most);
-    whole w = parse_within(source, length, limits, (uint32_t)(most - (int64_t)comments));
+    if (!is_counted) return parse_within(as, source, length, limits, most < 0 ? 0 : (uint32_t)most);
+    if (most < 0 || comments > (uint64_t)most) return counted_first(rules, as, source, length, limits, most);
+    whole w = parse_within(as, source, length, limits, (uint32_t)(most - (int64_t)comments));
     if (w.status != FIRTHNAPKIN_TOO_MANY_TOKENS) return w;
     give_back(&w);
-    return counted_first(rules, source, length, limits, most);
+    return counted_first(rules, as, source, length, limits, most);
 }
 
-/* What the tokens before the first one too many are: FIRTHNAPKIN_TOO_MANY_TOKENS if a document begins with them, and
+/* What the tokens before the first token past the limit are: FIRTHNAPKIN_TOO_MANY_TOKENS if what is wanted begins with them, and
  * otherwise the status that is returned for them, with its error. No buffers are passed, so nothing is built from them. */
-static uint32_t begun(const uint8_t *source, const firthnapkin_limits *limits, firthnapkin_error *error) {
+static uint32_t begun(parsed_as as, const uint8_t *source, const firthnapkin_limits *limits, firthnapkin_error *error) {
     size_t nodes, texts;
     firthnapkin_error found;
     firthnapkin_limits others = with_tokens(limits, UINT32_MAX);
-    uint32_t status = parse_on_stack(source, error->start.byte, &others, NULL, 0, &nodes, NULL, 0, &texts, &found);
+    uint32_t status = parse_as_on_stack(as, source, error->start.byte, &others, NULL, 0, &nodes, NULL, 0, &texts, &found);
     bool is_whole = status == FIRTHNAPKIN_BUFFER_TOO_SMALL || status == FIRTHNAPKIN_OK;
     bool is_at_end = status == FIRTHNAPKIN_SYNTAX_ERROR && found.kind == FIRTHNAPKIN_ERROR_UNEXPECTED_END;
     if (is_whole || is_at_end) return FIRTHNAPKIN_TOO_MANY_TOKENS;
@@ -215,11 +216,11 @@ enum { EARLIER_ERROR = 102 };
 
 /* The nodes of a source that keeps all limits. If it doesn't, the status says which one, and the error is at the first
  * token beyond it, or says which operation is; or the status is EARLIER_ERROR. */
-static whole within(const counting_rules *rules, const uint8_t *source, size_t length, const package_limits *limits,
-                    int64_t most) {
-    whole w = with_few_tokens(rules, source, length, limits, most);
+static whole within(const counting_rules *rules, parsed_as as, const uint8_t *source, size_t length,
+                    const package_limits *limits, int64_t most) {
+    whole w = with_few_tokens(rules, as, source, length, limits, most);
     if (w.status != FIRTHNAPKIN_TOO_MANY_TOKENS && w.status != FIRTHNAPKIN_TOO_DEEP) return w;
-    if (w.status == FIRTHNAPKIN_TOO_MANY_TOKENS) w.status = begun(source, &limits->call, &w.error);
+    if (w.status == FIRTHNAPKIN_TOO_MANY_TOKENS) w.status = begun(as, source, &limits->call, &w.error);
     bool is_earlier = w.status == FIRTHNAPKIN_SYNTAX_ERROR || is_refused_before(source, length, &w.error, &w.status);
     if (is_earlier) w.status = EARLIER_ERROR;
     return w;

@@ -87,6 +87,8 @@ typedef struct {
     size_t length;
     /* Each character is a byte. */
     bool is_ascii;
+    /* It is no value and no type. */
+    bool is_document;
     /* What graphql-core counts in the source, if documents have that number. */
     size_t counted;
     /* The Source, or None if no locations are made. */
@@ -396,17 +398,20 @@ static PyObject *with_count(const builder *b, PyObject *document) {
     return document;
 }
 
-/* The document, which spans the whole of the str. */
+/* The document, which spans the whole of the str, and has all parts that were made. */
+static PyObject *whole_document(const builder *b, Py_ssize_t characters) {
+    parts p = {0, b->count, {0, 0}};
+    PyObject *location = location_of(b, DOCUMENT_LOCATION, (span){0, (uint32_t)characters});
+    PyObject *result = object_of(b, DOCUMENT, (PyObject *[]){location, take_all(b, &p, false)});
+    return b->state->rules.token_count != NO_COUNT ? with_count(b, result) : result;
+}
+
+/* The document, or the value or the type that the source is. */
 static PyObject *document(builder *b, Py_ssize_t characters) {
     PyObject *result = NULL;
     size_t i = b->count;
     while (i > 0 && (b->made[i - 1] = made_of(b, i - 1)) != NULL) i--;
-    if (i == 0) {
-        parts p = {0, b->count, {0, 0}};
-        PyObject *location = location_of(b, DOCUMENT_LOCATION, (span){0, (uint32_t)characters});
-        result = object_of(b, DOCUMENT, (PyObject *[]){location, take_all(b, &p, false)});
-        if (b->state->rules.token_count != NO_COUNT) result = with_count(b, result);
-    }
+    if (i == 0) result = b->is_document ? whole_document(b, characters) : take(b, &(parts){0, b->count, {0, 0}});
     for (; i < b->count; i++) Py_XDECREF(b->made[i]);
     return result;
 }

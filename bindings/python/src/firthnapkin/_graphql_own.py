@@ -2,7 +2,7 @@
 
 from __future__ import annotations
 
-from typing import Any, Mapping, Optional, Union
+from typing import Any, Callable, Mapping, Optional, Union
 
 from ._graphql_release import RULES, VERSION  # before graphql-core's modules, since it checks the release
 
@@ -105,12 +105,21 @@ class _LimitedLexer(Lexer):
         return token
 
 
-def _parsed(source: Union[Source, str], options: Mapping[str, Any], depth: int, max_tokens: Any) -> ast.DocumentNode:
-    """Returns the document of graphql-core's own parser. Raises its errors, and GraphQLSyntaxError past a limit."""
+def _parsed(
+    source: Union[Source, str],
+    options: Mapping[str, Any],
+    depth: int,
+    max_tokens: Any,
+    read: Callable[[Parser], Any] = lambda parser: parser.parse_document(),
+) -> Any:
+    """Returns the document of graphql-core's own parser, or what it reads otherwise.
+
+    Raises its errors, and GraphQLSyntaxError past a limit.
+    """
     parser = Parser(source, **options)
     parser._lexer = lexer = _LimitedLexer(parser._lexer.source, depth, max_tokens)
     try:
-        return parser.parse_document()
+        return read(parser)
     except RecursionError:
         pass
     # Here the error's context and traceback don't keep the frames of that parser.
@@ -125,7 +134,7 @@ def own_document(
     Raises the errors of that parser. Raises GraphQLSyntaxError at the first token past a limit, and at the token that was
     reached when the stack had no more room. Raises GraphQLError if an operation can't be expanded, or is past a limit.
     """
-    document = _parsed(source, options, depth, max_tokens)
+    document: ast.DocumentNode = _parsed(source, options, depth, max_tokens)
     if has_sizes(limits):
         excess = first_excess(document, sizes_of(limits))
         if excess is not None and excess.node.loc is None:
@@ -134,6 +143,20 @@ def own_document(
         if excess is not None:
             raise _error_of(excess)
     return document
+
+
+def own_literal(
+    source: Union[Source, str], options: Mapping[str, Any], depth: int, max_tokens: Any, read: Callable[[Parser], Any]
+) -> Any:
+    """Returns what graphql-core's own parser reads so, if nothing else is in the source. Raises what own_document does."""
+
+    def read_alone(parser: Parser) -> Any:
+        parser.expect_token(TokenKind.SOF)
+        found = read(parser)
+        parser.expect_token(TokenKind.EOF)
+        return found
+
+    return _parsed(source, options, depth, max_tokens, read_alone)
 
 
 def _error_of(excess: Excess) -> GraphQLError:

@@ -61,6 +61,27 @@ static PyObject *parse(PyObject *module, PyObject *arguments) {
     return result_of(&w, w.nodes, w.nodes_count * sizeof *w.nodes, 3);
 }
 
+PyDoc_STRVAR(parse_as_doc, "parse_as(source, limits, what, /)\n--\n\n"
+                           "Returns the status, and the bytes of the nodes and of the texts of a source that is no document.\n\n"
+                           "It is parsed as AS_VALUE, AS_CONSTANT or AS_TYPE. The limits are those of parse; those on sizes aren't\n"
+                           "read. For an error the bytes are those of a firthnapkin_error and of its message. Raises ValueError if\n"
+                           "the limits have another size, and MemoryError if memory runs out.");
+
+static PyObject *parse_as(PyObject *module, PyObject *arguments) {
+    PyObject *source, *given;
+    package_limits limits;
+    int what;
+    char *bytes;
+    Py_ssize_t length;
+    (void)module;
+    if (!PyArg_ParseTuple(arguments, "SSi:parse_as", &source, &given, &what) || !are_limits(given, &limits)) return NULL;
+    if (PyBytes_AsStringAndSize(source, &bytes, &length) != 0) return NULL;
+    PyThreadState *state = PyEval_SaveThread();
+    whole w = whole_as((parsed_as)what, (const uint8_t *)bytes, (size_t)length, &limits.call);
+    PyEval_RestoreThread(state);
+    return result_of(&w, w.nodes, w.nodes_count * sizeof *w.nodes, 2);
+}
+
 PyDoc_STRVAR(check_doc, "check(source, limits, /)\n--\n\n"
                         "Returns None if a source is a document, and otherwise the status, and the bytes of a firthnapkin_error\n"
                         "and of its message.\n\n"
@@ -208,6 +229,7 @@ static PyObject *packed(PyObject *module, PyObject *arguments) {
 }
 
 static PyMethodDef methods[] = {{"parse", parse, METH_VARARGS, parse_doc},
+                                {"parse_as", parse_as, METH_VARARGS, parse_as_doc},
                                 {"check", check, METH_VARARGS, check_doc},
                                 {"complexities", complexities, METH_O, complexities_doc},
                                 {"tokens", tokens, METH_VARARGS, tokens_doc},
@@ -219,6 +241,9 @@ static PyMethodDef methods[] = {{"parse", parse, METH_VARARGS, parse_doc},
 static int begin(PyObject *module) {
     return PyModule_AddIntConstant(module, "LIMITS_SIZE", sizeof(firthnapkin_limits)) != 0
             || PyModule_AddIntConstant(module, "SIZES", SIZES) != 0
+            || PyModule_AddIntConstant(module, "AS_VALUE", AS_VALUE) != 0
+            || PyModule_AddIntConstant(module, "AS_CONSTANT", AS_CONSTANT) != 0
+            || PyModule_AddIntConstant(module, "AS_TYPE", AS_TYPE) != 0
             || PyModule_AddIntConstant(module, "MAX_DEPTH", FIRTHNAPKIN_MAX_DEPTH) != 0
             || PyModule_AddObject(module, "MAX_TOKENS", PyLong_FromUnsignedLong(UINT32_MAX)) != 0
             || PyModule_AddStringConstant(module, "VERSION", FIRTHNAPKIN_VERSION_STRING) != 0

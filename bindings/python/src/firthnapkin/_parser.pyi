@@ -1,5 +1,8 @@
 from typing import Any, Dict, Optional, Tuple, Union
 
+AS_CONSTANT: int
+AS_TYPE: int
+AS_VALUE: int
 LIMITS_SIZE: int
 MAX_DEPTH: int
 MAX_TOKENS: int
@@ -7,6 +10,7 @@ SIZES: int
 VERSION: str
 
 def parse(source: bytes, limits: bytes, /) -> Tuple[int, bytes, bytes, bytes]: ...
+def parse_as(source: bytes, limits: bytes, what: int, /) -> Tuple[int, bytes, bytes]: ...
 def check(source: bytes, limits: bytes, /) -> Optional[Tuple[int, bytes, bytes]]: ...
 def complexities(source: bytes, /) -> Tuple[int, bytes, bytes]: ...
 def tokens(source: bytes, tokens: int, /) -> Tuple[int, bytes, bytes]: ...

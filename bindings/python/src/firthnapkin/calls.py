@@ -45,22 +45,24 @@ def encoded(source: str, name: Optional[str]) -> bytes:
         raise _surrogate(source, error.start, name) from None
 
 
-def given(source: str, status: int, first: bytes, texts: bytes, *, name: Optional[str] = None) -> Tuple[bytes, bytes]:
+def given(
+    source: str, status: int, first: bytes, texts: bytes, *, name: Optional[str] = None, is_document: bool = True
+) -> Tuple[bytes, bytes]:
     """Returns the results of a call on a source, which may have a name. Raises its error if the status says that it failed."""
     if status == _OK:
         return first, texts
     if status in _WITH_ERROR:
-        raise _error(source, first, texts, name)
+        raise _error(source, first, texts, name, is_document)
     if status == _SOURCE_TOO_LONG:
         raise ValueError("source must have less than 4 GiB")
     raise SystemError(f"the parser returned {status}")
 
 
-def _error(source: str, numbers: bytes, words: bytes, name: Optional[str]) -> FirthnapkinError:
+def _error(source: str, numbers: bytes, words: bytes, name: Optional[str], is_document: bool) -> FirthnapkinError:
     kind, detail, character, *positions = _ERROR.unpack(numbers)[:11]
     start, end = Position(*positions[:4]), Position(*positions[4:])
     message = words.decode()
-    if kind == ErrorKind.UNEXPECTED_TOKEN.value:
+    if is_document and kind == ErrorKind.UNEXPECTED_TOKEN.value:
         message += note_on(source, start.index, end.index)
     return FirthnapkinError(
         message,

@@ -14,6 +14,7 @@ __all__ = ["Fragment", "Operation", "VariableDefinition"]
 
 OPERATIONS = numbers_of(Kind.QUERY, Kind.MUTATION, Kind.SUBSCRIPTION)
 FRAGMENTS = numbers_of(Kind.FRAGMENT_DEFINITION)
+DEFINITIONS = OPERATIONS | FRAGMENTS
 _TYPES = numbers_of(Kind.TYPE)
 _VARIABLE_LISTS = numbers_of(Kind.VARIABLE_DEFINITIONS)
 

@@ -9,7 +9,7 @@ from typing import FrozenSet, Optional
 from . import _parser
 from .calls import given
 from .complexities import Complexity, complexity_of
-from .definitions import FRAGMENTS, OPERATIONS, Fragment, Operation
+from .definitions import DEFINITIONS, FRAGMENTS, OPERATIONS, Fragment, Operation
 from .nodes import Node, Nodes
 from .parts import Parts
 from .syntax import SyntaxParts, first_named
@@ -44,7 +44,7 @@ class Document(Parts[Node]):
     @property
     def definitions(self) -> Nodes:
         """The operations and fragments. They are looked for each time."""
-        return self._siblings(0, self._count)
+        return self._siblings(0, self._count, DEFINITIONS)
 
     @property
     def operations(self) -> SyntaxParts[Operation]:

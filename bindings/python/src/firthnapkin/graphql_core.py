@@ -1,4 +1,4 @@
-"""graphql-core's `parse`, by the parser of this package: for graphql-core 3.2.
+"""graphql-core's `parse`, and what parses values and types, by the parser of this package: for graphql-core 3.2.
 
     from firthnapkin import graphql_core
     graphql_core.install()
@@ -12,21 +12,22 @@ from __future__ import annotations
 
 import functools
 import operator
-import sys
-from typing import Any, Callable, List, Mapping, Optional, Tuple, Union
+from typing import Any, Callable, Mapping, Optional, Union
 
 from ._graphql_release import further_options, may_change_requests  # first: it checks the release
 
 from graphql.error import GraphQLError
-from graphql.language import Source, ast
+from graphql.language import Source, ast, parser
 from graphql.language.parser import parse as own_parse
 
 from . import _graphql_core, _parser
+from ._graphql_literals import parse_const_value, parse_type, parse_value
 from ._graphql_nodes import Location
 from ._graphql_own import error_after, own_document, too_deep, too_little_stack, too_many
+from ._graphql_places import Place
 from .parser import LIMITS
 
-__all__ = ["Location", "install", "parse", "uninstall"]
+__all__ = ["Location", "install", "parse", "parse_const_value", "parse_type", "parse_value", "uninstall"]
 
 
 def parse(
@@ -109,56 +110,55 @@ def _document(
     raise too_many(origin, index, max_tokens)
 
 
-# What install has replaced: the modules, and the names in them. And what it has put there last.
-_replaced: List[Tuple[Any, str]] = []
-_put: Callable[..., ast.DocumentNode] = parse
+# graphql-core's functions, and those of this package in their place.
+_PLACES = (
+    Place(own_parse, parse),
+    Place(parser.parse_value, parse_value),
+    Place(parser.parse_const_value, parse_const_value),
+    Place(parser.parse_type, parse_type),
+)
 
 
 def install(**limits: Optional[int]) -> None:
-    """Puts `parse` in the place of graphql-core's own, under each name by which a module has it by now.
+    """Puts `parse`, `parse_value`, `parse_const_value` and `parse_type` in the place of graphql-core's own, under each name by which
+    a module has them by now.
 
-    Modules that are imported later get it from these. What is kept elsewhere, as an attribute of a class, a value of a dict, a
+    Modules that are imported later get them from these. What is kept elsewhere, as an attribute of a class, a value of a dict, a
     default argument or a part of a functools.partial, stays graphql-core's own.
 
-    The limits are those of `parse`. A call there that is given a limit has that one in place of the one given here. If
-    install is called again, its limits replace all those of the calls before. Raises TypeError for an option that is no
-    limit, and, as `parse` does, for a limit that is not accepted; ValueError for one that is out of its range.
+    The limits are those of `parse`; the others have `depth` and `max_tokens` of them. A call there that is given a limit has that
+    one in place of the one given here. If install is called again, its limits replace all those of the calls before. Raises
+    TypeError for an option that is no limit, and, as `parse` does, for a limit that is not accepted; ValueError for one that is
+    out of its range.
     """
-    global _put
     for name in limits:
         if name not in LIMITS.by_name:
             raise TypeError(f"install() got an unexpected keyword argument {name!r}")
     LIMITS.packed({**LIMITS.defaults, **limits})
-    before, _put = _put, _with(limits) if limits else parse
-    for module, name in _replaced:
-        if getattr(module, name, None) is before:
-            setattr(module, name, _put)
-    for module_name, module in list(sys.modules.items()):
-        if module_name.startswith("firthnapkin."):
-            continue
-        for name, value in list(getattr(module, "__dict__", {}).items()):
-            if value is own_parse or (value is before and before is not parse):
-                setattr(module, name, _put)
-                _replaced.append((module, name))
+    for place in _PLACES:
+        place.replace(_with(place.ours, limits) if limits else place.ours)
 
 
-def _with(limits: Mapping[str, Optional[int]]) -> Callable[..., ast.DocumentNode]:
-    """Returns `parse` with these limits, where a call gives no others."""
-    given_here = dict(limits)
+def _with(ours: Callable[..., Any], limits: Mapping[str, Optional[int]]) -> Callable[..., Any]:
+    """Returns this function with those of these limits that it has, where a call gives no others."""
+    has_all = ours is parse
+    given_here = {name: limit for name, limit in limits.items() if has_all or name in _OF_EACH}
     most = given_here.pop("max_tokens", None)
 
-    @functools.wraps(parse)
+    @functools.wraps(ours)
     def limited(
         source: Union[Source, str], no_location: bool = False, max_tokens: Optional[int] = None, *others: Any, **options: Any
-    ) -> ast.DocumentNode:
-        return parse(source, no_location, most if max_tokens is None else max_tokens, *others, **{**given_here, **options})
+    ) -> Any:
+        return ours(source, no_location, most if max_tokens is None else max_tokens, *others, **{**given_here, **options})
 
     return limited
 
 
+# The limits that are on no operation.
+_OF_EACH = ("depth", "max_tokens")
+
+
 def uninstall() -> None:
-    """Puts graphql-core's own `parse` back where `install` replaced it, unless something else has been put there since."""
-    while _replaced:
-        module, name = _replaced.pop()
-        if getattr(module, name, None) is _put:
-            setattr(module, name, own_parse)
+    """Puts graphql-core's own back where `install` replaced it, unless something else has been put there since."""
+    for place in _PLACES:
+        place.put_back()

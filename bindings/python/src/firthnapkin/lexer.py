@@ -69,6 +69,7 @@ class Token(Part):
 
     @property
     def kind(self) -> TokenKind:
+        """What it is."""
         return _KINDS[self._numbers[0]]
 
     @property

@@ -90,10 +90,12 @@ class Node(Part):
 
     @property
     def document(self) -> Document:
+        """The document that it is a node of."""
         return self._whole
 
     @property
     def kind(self) -> Kind:
+        """What it is a node of."""
         return _KINDS[self._numbers[0]]
 
     @property

@@ -39,6 +39,7 @@ class SyntaxPart:
 
     @property
     def document(self) -> Document:
+        """The document that it is a part of."""
         return self._node.document
 
     @property

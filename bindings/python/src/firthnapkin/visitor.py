@@ -28,9 +28,11 @@ class Visitor:
     """
 
     def enter(self, node: Node) -> Optional[Step]:
+        """Called before the parts in a node whose kind has no `enter_KIND`."""
         return None
 
     def leave(self, node: Node) -> Optional[Step]:
+        """Called after the parts in a node whose kind has no `leave_KIND`."""
         return None
 
     def visit(self, part: Union[Document, Node]) -> None:

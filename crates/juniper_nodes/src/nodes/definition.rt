@@ -31,7 +31,8 @@ pub fn document_nodes<'t, 'a, S: ScalarValue>(
     alloc: Global,
     document: &'t [Definition<'a, S>],
 ) -> Result<Vec<Node<'t, 'a, S>>, AllocError>
-    ensures { IfOk result (λ nodes. view_nodes S.content nodes ≡ document_nodes (map (view_definition S.content) document.now)) }
+    ensures { IfOk result (λ nodes. view_nodes S.content nodes ≡ document_nodes
+        (map (view_definition S.content) document.now)) }
 {
     let mut nodes = Vec::new(alloc);
     for definition in document {
@@ -48,7 +49,8 @@ pub fn push_definition<'t, 'a, S: ScalarValue>(
     nodes: &mut Vec<Node<'t, 'a, S>>,
     definition: &'t Definition<'a, S>,
 ) -> Result<(), AllocError>
-    ensures gained { OnOk result (Gains S.content nodes.old nodes.new (definition_nodes (view_definition S.content definition.now))) }
+    ensures gained { OnOk result (Gains S.content nodes.old nodes.new
+        (definition_nodes (view_definition S.content definition.now))) }
     ensures kept { OnErr result (StandsInFront S.content nodes.old nodes.new) }
 {
     match definition {
@@ -90,7 +92,7 @@ fn push_fragment<'t, 'a, S: ScalarValue>(
     ensures { Grows S.content result nodes.old nodes.new (definition_nodes (view_fragment S.content fragment.now)) }
 {
     let name = Label::Fragment(&fragment.item.name, &fragment.item.type_condition);
-    let place = push_open(nodes, NodeKind::Fragment, &fragment.span, name)?;
+    let place = push_open(nodes, NodeKind::FragmentDefinition, &fragment.span, name)?;
     push_directives(nodes, &fragment.item.directives)?;
     push_selections(nodes, &fragment.item.selection_set)?;
     close(nodes, place);

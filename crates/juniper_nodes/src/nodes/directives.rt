@@ -55,7 +55,8 @@ pub(crate) fn push_optional_arguments<'t, 'a, S: ScalarValue>(
     nodes: &mut Vec<Node<'t, 'a, S>>,
     arguments: &'t Option<Spanning<Arguments<'a, S>>>,
 ) -> Result<(), AllocError>
-    ensures { Grows S.content result nodes.old nodes.new (if_present arguments_nodes (option_map (view_arguments S.content) arguments.now)) }
+    ensures { Grows S.content result nodes.old nodes.new
+        (if_present arguments_nodes (option_map (view_arguments S.content) arguments.now)) }
 {
     match arguments {
         None => Ok(()),

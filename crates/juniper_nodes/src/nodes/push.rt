@@ -1,5 +1,5 @@
 //! Appending one node to the list.
-ghost use Rattle.std.specs.Prelude.{◌≡◌, ◌∷◌, [], ◌<◌, List, length, option_map, OnErr, IfOk};
+ghost use Rattle.std.specs.Prelude.{◌≡◌, ◌∷◌, [], ◌<◌, length, option_map, OnErr, IfOk};
 ghost use Rattle.graphql_nodes.specs.Nodes.{Node, over, scalar_node};
 ghost use Rattle.juniper_tokens.specs.Spans.{view_span};
 ghost use Rattle.juniper_tree.specs.View.{view_word};
@@ -18,7 +18,9 @@ pub(crate) fn push_open<'t, 'a, S: ScalarValue>(
     span: &'t Span,
     label: Label<'t, 'a>,
 ) -> Result<usize, AllocError>
-    ensures opened { IfOk result (λ place. (place ≡ length (view_nodes S.content nodes.old)) × Gains S.content nodes.old nodes.new (over kind (view_span span.now) (view_label (view_span span.now) label.entry) [])) }
+    ensures opened { IfOk result (λ place. (place ≡ length (view_nodes S.content nodes.old))
+        × Gains S.content nodes.old nodes.new
+        (over kind (view_span span.now) (view_label (view_span span.now) label.entry) [])) }
     ensures kept { OnErr result (StandsInFront S.content nodes.old nodes.new) }
 {
     let place = nodes.len();
@@ -39,7 +41,8 @@ pub(crate) fn push_leaf<'t, 'a, S: ScalarValue>(
     span: &'t Span,
     label: Label<'t, 'a>,
 ) -> Result<(), AllocError>
-    ensures { Grows S.content result nodes.old nodes.new (over kind (view_span span.now) (view_label (view_span span.now) label.entry) []) }
+    ensures { Grows S.content result nodes.old nodes.new
+        (over kind (view_span span.now) (view_label (view_span span.now) label.entry) []) }
 {
     push_open(nodes, kind, span, label)?;
     Ok(())
@@ -51,7 +54,8 @@ pub(crate) fn push_scalar<'t, 'a, S: ScalarValue>(
     scalar: &'t S,
     span: &'t Span,
 ) -> Result<(), AllocError>
-    ensures { Grows S.content result nodes.old nodes.new (scalar_node (S.content scalar.now) (view_span span.now) ∷ []) }
+    ensures { Grows S.content result nodes.old nodes.new
+        (scalar_node (S.content scalar.now) (view_span span.now) ∷ []) }
 {
     nodes.push(Node {
         kind: NodeKind::Scalar,

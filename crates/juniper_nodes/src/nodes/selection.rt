@@ -74,7 +74,7 @@ fn push_spread<'t, 'a, S: ScalarValue>(
     ensures { Grows S.content result nodes.old nodes.new (selection_nodes (view_spread S.content spread.now)) }
 {
     let name = Label::Name(&spread.item.name);
-    let place = push_open(nodes, NodeKind::Spread, &spread.span, name)?;
+    let place = push_open(nodes, NodeKind::FragmentSpread, &spread.span, name)?;
     push_directives(nodes, &spread.item.directives)?;
     close(nodes, place);
     Ok(())
@@ -88,7 +88,7 @@ fn push_inline<'t, 'a, S: ScalarValue>(
     ensures { Grows S.content result nodes.old nodes.new (selection_nodes (view_inline S.content fragment.now)) }
 {
     let condition = label_of(&fragment.item.type_condition);
-    let place = push_open(nodes, NodeKind::Inline, &fragment.span, condition)?;
+    let place = push_open(nodes, NodeKind::InlineFragment, &fragment.span, condition)?;
     push_directives(nodes, &fragment.item.directives)?;
     push_selections(nodes, &fragment.item.selection_set)?;
     close(nodes, place);

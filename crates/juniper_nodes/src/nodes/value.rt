@@ -49,7 +49,7 @@ pub(crate) fn push_value<'t, 'a, S: ScalarValue>(
         ),
         InputValue::Variable(name) => push_leaf(
             nodes,
-            NodeKind::Reference,
+            NodeKind::Variable,
             span,
             Label::Text(name.as_str()),
         ),
@@ -73,7 +73,8 @@ fn push_items<'t, 'a, S: ScalarValue>(
     nodes: &mut Vec<Node<'t, 'a, S>>,
     items: &'t [Spanning<InputValue<S>>],
 ) -> Result<(), AllocError>
-    ensures { Grows S.content result nodes.old nodes.new (items_nodes (items_of (map (view_value S.content) items.now))) }
+    ensures { Grows S.content result nodes.old nodes.new
+        (items_nodes (items_of (map (view_value S.content) items.now))) }
 {
     for item in items {
         push_value(nodes, item)?;
@@ -86,11 +87,12 @@ fn push_fields<'t, 'a, S: ScalarValue>(
     nodes: &mut Vec<Node<'t, 'a, S>>,
     fields: &'t [(Spanning<String>, Spanning<InputValue<S>>)],
 ) -> Result<(), AllocError>
-    ensures { Grows S.content result nodes.old nodes.new (fields_nodes (fields_of (map (view_object_field S.content) fields.now))) }
+    ensures { Grows S.content result nodes.old nodes.new
+        (fields_nodes (fields_of (map (view_object_field S.content) fields.now))) }
 {
     for (key, value) in fields {
         let name = Label::Text(key.item.as_str());
-        let place = push_open(nodes, NodeKind::Key, &key.span, name)?;
+        let place = push_open(nodes, NodeKind::ObjectField, &key.span, name)?;
         push_value(nodes, value)?;
         close(nodes, place);
     }

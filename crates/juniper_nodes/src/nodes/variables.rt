@@ -19,7 +19,8 @@ fn push_default<'t, 'a, S: ScalarValue>(
     nodes: &mut Vec<Node<'t, 'a, S>>,
     value: &'t Option<Spanning<InputValue<S>>>,
 ) -> Result<(), AllocError>
-    ensures { Grows S.content result nodes.old nodes.new (if_present value_nodes (option_map (view_value S.content) value.now)) }
+    ensures { Grows S.content result nodes.old nodes.new
+        (if_present value_nodes (option_map (view_value S.content) value.now)) }
 {
     match value {
         None => Ok(()),
@@ -35,7 +36,12 @@ fn push_variable<'t, 'a, S: ScalarValue>(
 {
     let name = &variable.0;
     let literal = &variable.1.var_type;
-    let place = push_open(nodes, NodeKind::Variable, &name.span, Label::Name(name))?;
+    let place = push_open(
+        nodes,
+        NodeKind::VariableDefinition,
+        &name.span,
+        Label::Name(name),
+    )?;
     push_leaf(
         nodes,
         NodeKind::Type,
@@ -65,7 +71,12 @@ fn push_variables<'t, 'a, S: ScalarValue>(
 ) -> Result<(), AllocError>
     ensures { Grows S.content result nodes.old nodes.new (variables_nodes (view_variables S.content variables.now)) }
 {
-    let place = push_open(nodes, NodeKind::Variables, &variables.span, Label::Unnamed)?;
+    let place = push_open(
+        nodes,
+        NodeKind::VariableDefinitions,
+        &variables.span,
+        Label::Unnamed,
+    )?;
     push_each(nodes, &variables.item.items)?;
     close(nodes, place);
     Ok(())
@@ -76,7 +87,8 @@ pub(crate) fn push_optional_variables<'t, 'a, S: ScalarValue>(
     nodes: &mut Vec<Node<'t, 'a, S>>,
     variables: &'t Option<Spanning<VariableDefinitions<'a, S>>>,
 ) -> Result<(), AllocError>
-    ensures { Grows S.content result nodes.old nodes.new (if_present variables_nodes (option_map (view_variables S.content) variables.now)) }
+    ensures { Grows S.content result nodes.old nodes.new
+        (if_present variables_nodes (option_map (view_variables S.content) variables.now)) }
 {
     match variables {
         None => Ok(()),

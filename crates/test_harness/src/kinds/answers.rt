@@ -76,8 +76,8 @@ fn object_from(alloc: Global, pairs: Vec<(String, Answer)>) -> Result<Answer, Al
     Ok(Value::object(object))
 }
 
-/// `object`: a call that makes an object: `with_capacity` of a number of fields, or `from_iter` of the fields of the value
-/// literal that is the text.
+/// `object`: a call that makes an object: `with_capacity` of a number of fields, or `from_iter` of the fields of the
+/// value literal that is the text.
 pub fn answer_made(alloc: Global, out: &mut String, text: &str, call: &str) -> Written {
     let (word, number) = word_of(call);
     match word {

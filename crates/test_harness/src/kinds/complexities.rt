@@ -5,8 +5,8 @@ use crate::write::{Written, write_refusal, write_spread};
 use juniper_complexity::{OperationComplexity, operation_complexities};
 use std::alloc::Global;
 
-/// `complexities`: of each operation its index among the definitions, its fields, aliases, directives and root fields, and its
-/// depth; or the first spread that can't be expanded.
+/// `complexities`: of each operation its index among the definitions, its fields, aliases, directives and root fields,
+/// and its depth; or the first spread that can't be expanded.
 pub fn write_complexities(alloc: Global, out: &mut String, text: &str) -> Written {
     match document(alloc, text) {
         Ok(document) => write_expanded(alloc, out, document),

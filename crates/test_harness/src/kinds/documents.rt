@@ -9,8 +9,8 @@ use crate::write::{
 use juniper::{Arguments, DefaultScalarValue, InputValue, LimitFailure, ParseFailure, Spanning};
 use std::alloc::{AllocError, Global};
 
-/// `document`, `within` and `limited`: the lines of the tree, or the refusal. Of `within` the text's first word is the limit
-/// on nesting, of `limited` the first two are those on nesting and on tokens.
+/// `document`, `within` and `limited`: the lines of the tree, or the refusal. Of `within` the text's first word is the
+/// limit on nesting, of `limited` the first two are those on nesting and on tokens.
 pub fn write_tree(alloc: Global, out: &mut String, kind: &str, text: &str) -> Written {
     match parsed(alloc, kind, text) {
         Ok(document) => write_document(alloc, out, document),

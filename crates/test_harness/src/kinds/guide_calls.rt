@@ -19,10 +19,11 @@ use juniper::{
 use std::alloc::Global;
 use std::collections::BTreeMap;
 
-/// `guide`: calls on the text. `is_document_within` takes a limit, `same_literal` another text, `argument_value` the name
-/// of an argument of the first field of the first operation, and the variables as the fields of an object. `stored` takes
-/// another text, which is looked for in a store of the text, `parse_affordable` the largest number of fields, as
-/// `definition_names` within a depth of 3 and 20 tokens, `answer_json` the name of an operation, or `-` for none, and the variables as the fields of an object.
+/// `guide`: calls on the text. `is_document_within` takes a limit, `same_literal` another text, `argument_value` the
+/// name of an argument of the first field of the first operation, and the variables as the fields of an object.
+/// `stored` takes another text, which is looked for in a store of the text, `parse_affordable` the largest number of
+/// fields, as `definition_names` within a depth of 3 and 20 tokens, `answer_json` the name of an operation, or `-` for
+/// none, and the variables as the fields of an object.
 pub fn answer(alloc: Global, out: &mut String, text: &str, call: &str) -> Written {
     let (word, rest) = word_of(call);
     match word {

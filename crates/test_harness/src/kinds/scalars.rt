@@ -12,8 +12,8 @@ use juniper::{
 use std::alloc::{AllocError, Global};
 use std::borrow::CowStr;
 
-/// `scalar`: a call on the scalar that a token is read as. The row's text is the token's kind, a space and its text. After
-/// `text` a text stands that is no token: the call is on it, or on the scalar that is made of it.
+/// `scalar`: a call on the scalar that a token is read as. The row's text is the token's kind, a space and its text.
+/// After `text` a text stands that is no token: the call is on it, or on the scalar that is made of it.
 pub fn answer<S: ScalarValue>(alloc: Global, out: &mut String, text: &str, call: &str) -> Written {
     let (kind, text) = word_of(text);
     if kind == "text" {

@@ -1,5 +1,5 @@
-//! Sources that are one value or one type: the lines of it, or why there is none. The text's first two words are the limits on
-//! nesting and on tokens.
+//! Sources that are one value or one type: the lines of it, or why there is none. The text's first two words are the
+//! limits on nesting and on tokens.
 
 use crate::kinds::tree::write_value;
 use crate::kinds::{number_of, word_of};

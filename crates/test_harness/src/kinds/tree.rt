@@ -1,4 +1,5 @@
-//! The lines of nodes: a span, the kind or the scalar, and what names the node, with its span where that is another one.
+//! The lines of nodes: a span, the kind or the scalar, and what names the node, with its span where that is another
+//! one.
 
 use crate::write::{At, Written};
 use juniper::{DefaultScalarValue, Definition, InputValue, OwnedDocument, Span, Spanning};

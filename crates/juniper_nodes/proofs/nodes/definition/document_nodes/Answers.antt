@@ -6,7 +6,8 @@ use Rattle.juniper_nodes.proofs.Rows.{no_part_yet, next_part, no_part}
 use Rattle.juniper_nodes.proofs.nodes.definition.document_nodes.Goals as goal
 
 pub loop-definition-init : goal.loop-definition-init
-loop-definition-init g c = no_part_yet g.S.ParseScalarValue.content definition_nodes (view_definition g.S.ParseScalarValue.content) c.new-nodes.result c.args.document.now
+loop-definition-init g c = no_part_yet g.S.ParseScalarValue.content definition_nodes
+    (view_definition g.S.ParseScalarValue.content) c.new-nodes.result c.args.document.now
 
 pub loop-definition-preserved : goal.loop-definition-preserved
 loop-definition-preserved g c =

@@ -25,7 +25,8 @@ returns-in_err-push_selections g c =
 pub close-requires : goal.close-requires
 close-requires g c =
     let content = g.S.ParseScalarValue.content in
-    place_held content c.in_ok-place.ensures.opened (grown content c.in_ok-push_directives.ensures c.in_ok-push_selections.ensures)
+    place_held content c.in_ok-place.ensures.opened
+    (grown content c.in_ok-push_directives.ensures c.in_ok-push_selections.ensures)
 
 pub returns-in_err-place : goal.returns-in_err-place
 returns-in_err-place g c =

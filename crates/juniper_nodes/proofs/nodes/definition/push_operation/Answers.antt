@@ -11,13 +11,15 @@ returns g c =
     let span = view_span c.args.operation.now.span in
     let parts = grown content c.in_ok-push_directives.ensures c.in_ok-push_selections.ensures in
     rw (← c.kind_of-kind.ensures, ← c.label_of-name.ensures span, ← c.deref.ensures.value)
-    (closed content c.in_ok-place.ensures.opened (grown content c.in_ok-push_optional_variables.ensures parts) c.close.ensures)
+    (closed content c.in_ok-place.ensures.opened (grown content c.in_ok-push_optional_variables.ensures parts)
+    c.close.ensures)
 
 pub returns-in_err-push_optional_variables : goal.returns-in_err-push_optional_variables
 returns-in_err-push_optional_variables g c =
     let content = g.S.ParseScalarValue.content in
     let before = c.in_ok-place.ensures.opened.1 in
-    grown_on_error content _ _ c.from_residual-in_err-push_optional_variables.ensures.0 before c.in_err-push_optional_variables.ensures
+    grown_on_error content _ _ c.from_residual-in_err-push_optional_variables.ensures.0 before
+    c.in_err-push_optional_variables.ensures
 
 pub returns-in_err-push_directives : goal.returns-in_err-push_directives
 returns-in_err-push_directives g c =
@@ -28,13 +30,16 @@ returns-in_err-push_directives g c =
 pub returns-in_err-push_selections : goal.returns-in_err-push_selections
 returns-in_err-push_selections g c =
     let content = g.S.ParseScalarValue.content in
-    let before = grown content c.in_ok-place.ensures.opened.1 (grown content c.in_ok-push_optional_variables.ensures c.in_ok-push_directives.ensures) in
+    let before = grown content c.in_ok-place.ensures.opened.1
+    (grown content c.in_ok-push_optional_variables.ensures c.in_ok-push_directives.ensures) in
     grown_on_error content _ _ c.from_residual-in_err-push_selections.ensures.0 before c.in_err-push_selections.ensures
 
 pub close-requires : goal.close-requires
 close-requires g c =
     let content = g.S.ParseScalarValue.content in
-    place_held content c.in_ok-place.ensures.opened (grown content c.in_ok-push_optional_variables.ensures (grown content c.in_ok-push_directives.ensures c.in_ok-push_selections.ensures))
+    place_held content c.in_ok-place.ensures.opened
+    (grown content c.in_ok-push_optional_variables.ensures
+    (grown content c.in_ok-push_directives.ensures c.in_ok-push_selections.ensures))
 
 pub returns-in_err-place : goal.returns-in_err-place
 returns-in_err-place g c =

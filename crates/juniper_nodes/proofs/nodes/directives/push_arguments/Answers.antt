@@ -15,7 +15,8 @@ returns g c =
 pub returns-in_err-push_each : goal.returns-in_err-push_each
 returns-in_err-push_each g c =
     let content = g.S.ParseScalarValue.content in
-    grown_on_error content _ _ c.from_residual-in_err-push_each.ensures.0 c.in_ok-place.ensures.opened.1 c.in_err-push_each.ensures
+    grown_on_error content _ _ c.from_residual-in_err-push_each.ensures.0 c.in_ok-place.ensures.opened.1
+    c.in_err-push_each.ensures
 
 pub close-requires : goal.close-requires
 close-requires g c =

@@ -25,7 +25,8 @@ push_field-returns-in-None g t c =
     let content = g.S.ParseScalarValue.content in
     let parts = grown content c.in_ok-push_directives.ensures (grown_none content _) in
     let all = grown content c.in_ok-push_alias.ensures (grown content c.in_ok-push_optional_arguments.ensures parts) in
-    rw (field_alone content c.args.field.now c.in-None.is) (closed content c.in_ok-place.ensures.opened all c.close.ensures)
+    rw (field_alone content c.args.field.now c.in-None.is)
+    (closed content c.in_ok-place.ensures.opened all c.close.ensures)
 
 pub push_field-returns-in_ok-push_selections-in-Some : goal.push_field-returns-in_ok-push_selections-in-Some
 push_field-returns-in_ok-push_selections-in-Some g t c =
@@ -44,7 +45,8 @@ push_inline-returns g t c =
     (closed content c.in_ok-place.ensures.opened parts c.close.ensures)
 
 pub push_selections-loop-selection-init : goal.push_selections-loop-selection-init
-push_selections-loop-selection-init g t c = no_part_yet g.S.ParseScalarValue.content selection_nodes (view_selection g.S.ParseScalarValue.content) c.args.nodes.now c.args.selections.now
+push_selections-loop-selection-init g t c = no_part_yet g.S.ParseScalarValue.content selection_nodes
+    (view_selection g.S.ParseScalarValue.content) c.args.nodes.now c.args.selections.now
 
 pub push_selections-loop-selection-preserved : goal.push_selections-loop-selection-preserved
 push_selections-loop-selection-preserved g t c =
@@ -75,19 +77,24 @@ pub push_field-returns-in_err-push_optional_arguments : goal.push_field-returns-
 push_field-returns-in_err-push_optional_arguments g t c =
     let content = g.S.ParseScalarValue.content in
     let before = grown content c.in_ok-place.ensures.opened.1 c.in_ok-push_alias.ensures in
-    grown_on_error content _ _ c.from_residual-in_err-push_optional_arguments.ensures.0 before c.in_err-push_optional_arguments.ensures
+    grown_on_error content _ _ c.from_residual-in_err-push_optional_arguments.ensures.0 before
+    c.in_err-push_optional_arguments.ensures
 
 pub push_field-returns-in_err-push_directives : goal.push_field-returns-in_err-push_directives
 push_field-returns-in_err-push_directives g t c =
     let content = g.S.ParseScalarValue.content in
-    let before = grown content c.in_ok-place.ensures.opened.1 (grown content c.in_ok-push_alias.ensures c.in_ok-push_optional_arguments.ensures) in
+    let before = grown content c.in_ok-place.ensures.opened.1
+    (grown content c.in_ok-push_alias.ensures c.in_ok-push_optional_arguments.ensures) in
     grown_on_error content _ _ c.from_residual-in_err-push_directives.ensures.0 before c.in_err-push_directives.ensures
 
 pub push_field-returns-in_err-push_selections-in-Some : goal.push_field-returns-in_err-push_selections-in-Some
 push_field-returns-in_err-push_selections-in-Some g t c =
     let content = g.S.ParseScalarValue.content in
-    let before = grown content c.in_ok-place.ensures.opened.1 (grown content c.in_ok-push_alias.ensures (grown content c.in_ok-push_optional_arguments.ensures c.in_ok-push_directives.ensures)) in
-    grown_on_error content _ _ c.from_residual-in_err-push_selections-in-Some.ensures.0 before c.in_err-push_selections-in-Some.ensures
+    let before = grown content c.in_ok-place.ensures.opened.1
+    (grown content c.in_ok-push_alias.ensures
+    (grown content c.in_ok-push_optional_arguments.ensures c.in_ok-push_directives.ensures)) in
+    grown_on_error content _ _ c.from_residual-in_err-push_selections-in-Some.ensures.0 before
+    c.in_err-push_selections-in-Some.ensures
 
 pub push_inline-returns-in_err-push_directives : goal.push_inline-returns-in_err-push_directives
 push_inline-returns-in_err-push_directives g t c =
@@ -126,7 +133,8 @@ push_field-returns-in_err-place g t c =
 pub push_inline-close-requires : goal.push_inline-close-requires
 push_inline-close-requires g t c =
     let content = g.S.ParseScalarValue.content in
-    place_held content c.in_ok-place.ensures.opened (grown content c.in_ok-push_directives.ensures c.in_ok-push_selections.ensures)
+    place_held content c.in_ok-place.ensures.opened
+    (grown content c.in_ok-push_directives.ensures c.in_ok-push_selections.ensures)
 
 pub push_inline-returns-in_err-place : goal.push_inline-returns-in_err-place
 push_inline-returns-in_err-place g t c =

@@ -11,7 +11,8 @@ returns g c =
 pub returns-in_err-push_directives : goal.returns-in_err-push_directives
 returns-in_err-push_directives g c =
     let content = g.S.ParseScalarValue.content in
-    grown_on_error content _ _ c.from_residual-in_err-push_directives.ensures.0 c.in_ok-place.ensures.opened.1 c.in_err-push_directives.ensures
+    grown_on_error content _ _ c.from_residual-in_err-push_directives.ensures.0 c.in_ok-place.ensures.opened.1
+    c.in_err-push_directives.ensures
 
 pub close-requires : goal.close-requires
 close-requires g c =

@@ -45,10 +45,12 @@ push_value-returns-in_ok-push_fields-in-Object g t c =
     let at = c.in-Object in
     let fields = c.deref-in-Object in
     rw (object-nodes content c.values_are_seen.ensures c.args.value.now at.fields at.is, ← fields.ensures.value)
-    (closed content c.in_ok-place-in-Object.ensures.opened c.in_ok-push_fields-in-Object.ensures c.close-in-Object.ensures)
+    (closed content c.in_ok-place-in-Object.ensures.opened c.in_ok-push_fields-in-Object.ensures
+    c.close-in-Object.ensures)
 
 pub push_items-loop-item-init : goal.push_items-loop-item-init
-push_items-loop-item-init g t c = no_part_yet g.S.ParseScalarValue.content value_nodes (view_value g.S.ParseScalarValue.content) c.args.nodes.now c.args.items.now
+push_items-loop-item-init g t c = no_part_yet g.S.ParseScalarValue.content value_nodes
+    (view_value g.S.ParseScalarValue.content) c.args.nodes.now c.args.items.now
 
 pub push_items-loop-item-preserved : goal.push_items-loop-item-preserved
 push_items-loop-item-preserved g t c =
@@ -70,7 +72,8 @@ push_items-returns g t c =
     (no_part content value_nodes view c.args.nodes.now l.nodes xs l.item-index (omega arith) l.invariant)
 
 pub push_fields-loop-key-init : goal.push_fields-loop-key-init
-push_fields-loop-key-init g t c = no_part_yet g.S.ParseScalarValue.content field_nodes (view_object_field g.S.ParseScalarValue.content) c.args.nodes.now c.args.fields.now
+push_fields-loop-key-init g t c = no_part_yet g.S.ParseScalarValue.content field_nodes
+    (view_object_field g.S.ParseScalarValue.content) c.args.nodes.now c.args.fields.now
 
 pub push_fields-loop-key-preserved : goal.push_fields-loop-key-preserved
 push_fields-loop-key-preserved g t c =
@@ -82,7 +85,8 @@ push_fields-loop-key-preserved g t c =
     let new = c.close.new.nodes in
     next_part content field_nodes view c.args.nodes.now l.nodes new xs l.key-index x.result (omega arith) x.is
     l.invariant
-    (rw (← c.as_str.ensures.value) (closed content c.in_ok-place.ensures.opened c.in_ok-push_value.ensures c.close.ensures))
+    (rw (← c.as_str.ensures.value) (closed content c.in_ok-place.ensures.opened c.in_ok-push_value.ensures
+    c.close.ensures))
 
 pub push_fields-returns : goal.push_fields-returns
 push_fields-returns g t c =
@@ -96,12 +100,14 @@ push_fields-returns g t c =
 pub push_value-returns-in_err-push_items-in-List : goal.push_value-returns-in_err-push_items-in-List
 push_value-returns-in_err-push_items-in-List g t c =
     let content = g.S.ParseScalarValue.content in
-    grown_on_error content _ _ c.from_residual-in_err-push_items-in-List.ensures.0 c.in_ok-place-in-List.ensures.opened.1 c.in_err-push_items-in-List.ensures
+    grown_on_error content _ _ c.from_residual-in_err-push_items-in-List.ensures.0
+    c.in_ok-place-in-List.ensures.opened.1 c.in_err-push_items-in-List.ensures
 
 pub push_value-returns-in_err-push_fields-in-Object : goal.push_value-returns-in_err-push_fields-in-Object
 push_value-returns-in_err-push_fields-in-Object g t c =
     let content = g.S.ParseScalarValue.content in
-    grown_on_error content _ _ c.from_residual-in_err-push_fields-in-Object.ensures.0 c.in_ok-place-in-Object.ensures.opened.1 c.in_err-push_fields-in-Object.ensures
+    grown_on_error content _ _ c.from_residual-in_err-push_fields-in-Object.ensures.0
+    c.in_ok-place-in-Object.ensures.opened.1 c.in_err-push_fields-in-Object.ensures
 
 pub push_items-returns-in_err-push_value : goal.push_items-returns-in_err-push_value
 push_items-returns-in_err-push_value g t c =
@@ -111,7 +117,8 @@ push_items-returns-in_err-push_value g t c =
 pub push_fields-returns-in_err-push_value : goal.push_fields-returns-in_err-push_value
 push_fields-returns-in_err-push_value g t c =
     let content = g.S.ParseScalarValue.content in
-    grown_on_error content _ _ c.from_residual-in_err-push_value.ensures.0 (grown content c.loop-key.invariant c.in_ok-place.ensures.opened.1) c.in_err-push_value.ensures
+    grown_on_error content _ _ c.from_residual-in_err-push_value.ensures.0
+    (grown content c.loop-key.invariant c.in_ok-place.ensures.opened.1) c.in_err-push_value.ensures
 
 pub push_value-close-requires : goal.push_value-close-requires
 push_value-close-requires g t c =
@@ -131,7 +138,8 @@ push_value-returns-in_err-place-in-List g t c =
 
 pub push_value-returns-in_err-place-in-Object : goal.push_value-returns-in_err-place-in-Object
 push_value-returns-in_err-place-in-Object g t c =
-    kept_on_error g.S.ParseScalarValue.content _ _ c.from_residual-in_err-place-in-Object.ensures.0 c.in_err-place-in-Object.ensures.kept
+    kept_on_error g.S.ParseScalarValue.content _ _ c.from_residual-in_err-place-in-Object.ensures.0
+    c.in_err-place-in-Object.ensures.kept
 
 pub push_fields-returns-in_err-place : goal.push_fields-returns-in_err-place
 push_fields-returns-in_err-place g t c =

@@ -25,13 +25,16 @@ returns-in_err-push_default g c =
 pub returns-in_err-push_directives : goal.returns-in_err-push_directives
 returns-in_err-push_directives g c =
     let content = g.S.ParseScalarValue.content in
-    let before = grown content c.in_ok-place.ensures.opened.1 (grown content c.in_ok-push_leaf.ensures c.in_ok-push_default.ensures) in
+    let before = grown content c.in_ok-place.ensures.opened.1
+    (grown content c.in_ok-push_leaf.ensures c.in_ok-push_default.ensures) in
     grown_on_error content _ _ c.from_residual-in_err-push_directives.ensures.0 before c.in_err-push_directives.ensures
 
 pub close-requires : goal.close-requires
 close-requires g c =
     let content = g.S.ParseScalarValue.content in
-    place_held content c.in_ok-place.ensures.opened (grown content c.in_ok-push_leaf.ensures (grown content c.in_ok-push_default.ensures c.in_ok-push_directives.ensures))
+    place_held content c.in_ok-place.ensures.opened
+    (grown content c.in_ok-push_leaf.ensures
+    (grown content c.in_ok-push_default.ensures c.in_ok-push_directives.ensures))
 
 pub returns-in_err-place : goal.returns-in_err-place
 returns-in_err-place g c =

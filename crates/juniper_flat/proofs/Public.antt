@@ -1,4 +1,0 @@
--- What proofs of other crates may import of this crate's proofs, and all of it.
-pub use Rattle.juniper_flat.proofs.CanonicalTexts.{canonical_within}
-pub use Rattle.juniper_flat.proofs.HeldTokens.{fault_after, few_before, few_in_limit, few_tokens}
-pub use Rattle.juniper_flat.proofs.TokenTexts.{tells_text}

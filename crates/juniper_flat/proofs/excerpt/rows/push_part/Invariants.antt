@@ -1,6 +1,0 @@
-use Rattle.std.proofs.Common.{◌≡◌, ◌++◌, map, string_bytes, encode_utf8_all}
-use Rattle.juniper_flat.specs.Excerpts.{visible}
-use Rattle.juniper_flat.proofs.excerpt.rows.push_part.Given as goal
-
-abbrev pub invariant-loop-c : goal.invariant-loop-c
-invariant-loop-c l = string_bytes l.out ≡ string_bytes l.initial.out ++ encode_utf8_all (map visible l.yielded)
