@@ -12,9 +12,9 @@ use streams::ReportEnd;
 /// How the report on some bytes ends.
 #[derive(Clone, Copy, Debug, PartialEq, Eq)]
 pub enum CanonicalEnd {
-    /// The bytes are a text that can be cut into tokens: its canonical text.
+    /// The bytes are a text that can be tokenized: its canonical text.
     Text,
-    /// The bytes are UTF-8 but can't be cut into tokens: the first lexical error and its position.
+    /// The bytes are UTF-8 but can't be tokenized: the first lexical error and its position.
     Refused,
     /// The bytes are not UTF-8: a line that says so.
     NotUtf8,
@@ -38,7 +38,7 @@ impl ReportEnd for CanonicalEnd {
         }
     }
 
-    // A text has one cut into tokens, or one lexical error.
+    // A text has one tokenization, or one lexical error.
     fn one_report() {
         one_cut_or_break();
     }

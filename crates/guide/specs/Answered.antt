@@ -64,7 +64,7 @@ module _ (source : List ℕ) (name : Option Text) where
     pub each : AnswersEach (selections_in operation) answers
     pub written : IsTextOf (Some (events (merged answers))) text
 
-  -- Why there is no answer: the source is refused, or it is a document that has no such operation, or it is one.
+  -- What a failure says: the source is refused, or it is a document without the wanted operation, or a document.
   abbrev pub IsUnanswered : AnswerFailure → Type 0
   IsUnanswered (failure.Parse (parsing.Refused fault)) = IsRefusal default_scalars source (view_fault fault)
   IsUnanswered (failure.Operation why) = (tree : List (Definition Content)) × HasTree default_scalars source tree

@@ -16,7 +16,7 @@ use Rattle.juniper_parser.specs.Promise.{lexical_fault, unexpected, Refuses}
 use Rattle.juniper_tree.specs.View.{view_value}
 
 module _ {C : Type 0} (scalars : Scalars C Error) where
-  -- The text can be cut into tokens, and a front of them is this value, with or without variables.
+  -- The text can be tokenized, and its first tokens are this value, with or without variables.
   pub record BeginsWith (source : List ℕ) (value : Located (Value C)) : Type 0 where
     pub lexemes : List Lexeme
     pub cut : Cut source lexemes
@@ -25,8 +25,8 @@ module _ {C : Type 0} (scalars : Scalars C Error) where
     pub whole : lexemes ≡ front ++ left
     pub means : IsLocated (IsValue scalars true) value front
 
-  -- The text begins with no value. Where it can't be cut into tokens, the fault is its first lexical error. Where it
-  -- can, the fault is at the first token that cannot continue a value.
+  -- The text begins with no value. If it can't be tokenized, the fault is its first lexical error. Else the fault is at
+  -- the first token that cannot continue a value.
   pub record HasNoValue (source : List ℕ) (fault : Fault) : Type 0 where
     pub none : (value : Located (Value C)) → BeginsWith source value → ⊥
     pub lexical : (error : LexicalError) (at : Place) → Breaks source error at → fault ≡ lexical_fault error at

@@ -8,7 +8,7 @@ use std::alloc::{AllocError, Global};
 
 /// The value of a field's first argument of a name, each variable in it replaced by its value.
 ///
-/// None where there is no such argument, and where it is a variable that has no value.
+/// Returns None if no argument has this name, or if it is a variable that has no value.
 pub fn argument_value<S: ScalarValue>(
     alloc: Global,
     field: &Field<'_, S>,

@@ -6,8 +6,8 @@ ghost use Rattle.guide.specs.Fronts.{IsKept};
 use juniper::{DefaultScalarValue, ParseFailure, Span, parse_document_source};
 use std::alloc::{AllocError, Global};
 
-/// The span of a text's fault. Where the text can be cut into tokens, those that stand before it may be kept, whatever
-/// is typed next: after a space, some text after them makes a document. None where the text is a document.
+/// Returns the span of a text's error, or None if the text is a document. If the text can be tokenized, the tokens
+/// before the error may be kept, whatever is typed next: after a space, some text after them makes a document.
 pub fn kept_up_to(alloc: Global, source: &str) -> Result<Option<Span>, AllocError>
     ensures { IfOk result (λ span. IsKept (chars source.now) span) }
 {

@@ -25,8 +25,8 @@ use std::alloc::{AllocError, Global};
 /// text is its own canonical text, and never more than twice as long as its source.
 ///
 /// Returns `LexFailure::Fault` with the source's first lexical error, which has an empty span, if the source can't be
-/// cut into tokens. Whether the tokens are a document isn't checked. Returns `LexFailure::Memory` if memory runs out:
-/// capacity for as many bytes as the source has is requested at once.
+/// tokenized. Whether the tokens are a document isn't checked. Returns `LexFailure::Memory` if memory runs out:
+/// capacity for the number of bytes of the source is requested at once.
 ///
 /// ```
 /// let text = canonical_text(alloc, "{ a, b(c: \"d\") } # all")?;

@@ -23,9 +23,9 @@ use std::alloc::Global;
 /// before going on after the spread. A fragment that no operation reaches is never looked into. If memory runs out,
 /// returns `ComplexityFailure::Memory`.
 ///
-/// No fragment is expanded twice: time and memory grow with the document, and not with the numbers returned, but for a
-/// look-up of each fragment's and each spread's name in an ordered map. Takes stack in proportion to the nesting of
-/// selection sets, whatever the chains of spreads.
+/// No fragment is expanded twice: time and memory grow with the document, and not with the numbers returned, except
+/// that the name of each fragment and each spread is looked up in an ordered map. Takes stack in proportion to the
+/// nesting of selection sets, whatever the chains of spreads.
 ///
 /// ```
 /// for operation in &operation_complexities(alloc, &document)? {

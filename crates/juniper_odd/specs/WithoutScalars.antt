@@ -16,7 +16,7 @@ use Rattle.juniper_odd.specs.RefuseAll.{refuse_all_reading}
 abbrev pub no_literals : Scalars Content Error
 no_literals = stated refuse_all_reading boolean
 
--- The text is cut into tokens none of which is a scalar, and they are a document, whatever its scalar type reads.
+-- None of the text's tokens is a scalar, and they are a document, whatever its scalar type reads.
 pub record IsDocumentWithoutScalars (source : List ℕ) : Type 0 where
   pub lexemes : List Lexeme
   pub cut : Cut source lexemes

@@ -1,4 +1,4 @@
-//! Scalar types that read tokens in their own ways, beside the default one.
+//! Three scalar types for tests, which read tokens in their own ways, and not as the default one does.
 #![tactic(auto)]
 
 mod decimals;

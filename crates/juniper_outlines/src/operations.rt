@@ -114,8 +114,8 @@ pub fn own_complexities(
 /// is the first such spread for a reader who begins with the first operation, and goes through each spread's fragment
 /// before going on after the spread. If memory runs out, returns `ComplexityFailure::Memory`.
 ///
-/// No fragment is expanded twice: time and memory grow with the definitions and their spreads, but for a look-up of each
-/// fragment's and each spread's name in an ordered map.
+/// No fragment is expanded twice: time and memory grow with the definitions and their spreads, except that the name of
+/// each fragment and each spread is looked up in an ordered map.
 pub fn outlined_complexities(
     alloc: Global,
     definitions: &[DefinitionOutline<'_>],

@@ -1,6 +1,6 @@
 //! The results of calls of each kind.
 //!
-//! Where memory ran out in a call, `Memory` is written, and then what was handed back, if anything. The error that
+//! Where memory ran out in a call, `Memory` is written, and then what was returned with it, if anything. The error that
 //! memory ran out is returned where what the call is made on could not be made.
 
 mod answers;

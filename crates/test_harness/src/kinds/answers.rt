@@ -256,7 +256,7 @@ fn write_added(
     }
 }
 
-// Writes the value that was there, or after `Memory` the pair that was handed back.
+// Writes the value that was there, or after `Memory` the pair that was returned.
 fn write_old(out: &mut String, old: &Result<Option<Answer>, (String, Answer)>) -> Written {
     match old {
         Ok(old) => write_optional(out, old.as_ref()),

@@ -1,4 +1,4 @@
-//! Lists and objects that are made of a copy of a value and of null, or handed back where memory ran out.
+//! Lists and objects that are made of a copy of a value and of null, or returned as they were where memory ran out.
 
 use crate::kinds::input_values::write_map;
 use crate::parsing::Input;
@@ -7,7 +7,7 @@ use indexmap::IndexMap;
 use juniper::InputValue;
 use std::alloc::{AllocError, Global};
 
-/// Writes the list of the value and null, or after `Memory` the items that were handed back.
+/// Writes the list of the value and null, or after `Memory` the items that were returned.
 pub fn write_list(alloc: Global, out: &mut String, value: &Input) -> Written {
     match InputValue::list(alloc, items_of(alloc, value)?) {
         Ok(list) => write!(out, "{list}"),
@@ -25,7 +25,7 @@ fn items_of(alloc: Global, value: &Input) -> Result<Vec<Input>, AllocError> {
     Ok(items)
 }
 
-/// Writes the object of the value at the key `k` and null at `l`, or after `Memory` the fields that were handed back.
+/// Writes the object of the value at the key `k` and null at `l`, or after `Memory` the fields that were returned.
 pub fn write_object(alloc: Global, out: &mut String, value: &Input) -> Written {
     match InputValue::object(alloc, fields_of(alloc, value)?) {
         Ok(object) => write!(out, "{object}"),

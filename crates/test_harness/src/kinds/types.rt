@@ -52,7 +52,7 @@ fn answer_lent(out: &mut String, literal: &Type<String>, word: &str) -> Written 
     }
 }
 
-// Writes the type, or after `Memory` the one that was handed back.
+// Writes the type, or after `Memory` the one that was returned.
 fn write_wrapped(out: &mut String, wrapped: Result<Type<String>, Type<String>>) -> Written {
     match wrapped {
         Ok(literal) => write!(out, "{literal}"),
