@@ -72,14 +72,14 @@ const MaxDepth = C.FIRTHNAPKIN_MAX_DEPTH
 // AnyTokens is a number of tokens that no source exceeds.
 const AnyTokens = 1<<32 - 1
 
-// AnyNumber is no limit on a number of an operation. It is the largest that is counted to, and stands for all above it, too.
+// AnyNumber means no limit on a count of an operation. Counts saturate there.
 const AnyNumber = 1<<32 - 1
 
 // Version is the library's version.
 const Version = C.FIRTHNAPKIN_VERSION_STRING
 
-// Limits are what a source may have. The zero value allows no bracket, no token and no field, so begin with DefaultLimits. Those
-// on each operation are from 0 to AnyNumber, which is none, and count with every fragment expanded, as its Complexity does.
+// Limits are what a source may have. The zero value allows no bracket, no token and no field, so begin with DefaultLimits. The
+// limits on each operation are from 0 to AnyNumber, which means no limit, and hold for the counts of its Complexity.
 type Limits struct {
 	Depth  int // how deep brackets may be nested: from 0 to MaxDepth
 	Tokens int // how many tokens there may be, the end of the source not counted; AnyTokens and more are no limit
@@ -121,8 +121,8 @@ var (
 	ErrInvalidLimit = errors.New("firthnapkin: invalid limit")
 )
 
-// Parse returns the document that a source is within DefaultLimits, or an error: a *SyntaxError if the source is no such
-// document, otherwise one of the Err values.
+// Parse parses a source within DefaultLimits. The error is a *SyntaxError if the source isn't a document within them, and
+// otherwise one of the Err values.
 func Parse(source string) (*Document, error) {
 	return ParseWithin(source, DefaultLimits)
 }
@@ -194,10 +194,12 @@ func belowZero(name string, value int) error {
 	return fmt.Errorf("%w: %s %d is below 0", ErrInvalidLimit, name, value)
 }
 
-// ParseWithin is Parse with other limits. The source is read once. One with too many tokens is refused at the first one too
-// many, before anything is built. The first operation beyond a limit is refused where it begins; with such a limit a spread that
-// can't be expanded is refused, too, if an operation reaches it. An error that wraps ErrInvalidLimit is returned, and the source
-// isn't read, if the depth is not from 0 to MaxDepth, the number of tokens is below 0, or another limit is not from 0 to AnyNumber.
+// ParseWithin is Parse with other limits. The source is read once. The error of too many tokens is at the first token past the
+// limit, and found before anything is built. The first operation past a limit is an error at its start. With a limit on operations,
+// a reachable spread of an unknown or cyclic fragment is also an error.
+//
+// The error wraps ErrInvalidLimit, and the source isn't read, if the depth is not from 0 to MaxDepth, the number of tokens is below
+// 0, or another limit is not from 0 to AnyNumber.
 func ParseWithin(source string, limits Limits) (*Document, error) {
 	words, err := limits.words()
 	if err != nil {

@@ -75,8 +75,8 @@ func Tokens(source string) ([]Token, error) {
 	return TokensWithin(source, AnyTokens)
 }
 
-// TokensWithin is Tokens of a source that may have no more than so many tokens, its end not counted. One with more is refused at
-// the first one too many. If the number is below 0 the error wraps ErrInvalidLimit, and the source isn't read.
+// TokensWithin is Tokens with a limit on the number of tokens, the end not counted. The error is at the first token past the limit.
+// If the limit is below 0 the error wraps ErrInvalidLimit, and the source isn't read.
 func TokensWithin(source string, maxTokens int) ([]Token, error) {
 	if maxTokens < 0 {
 		return nil, belowZero("maxTokens", maxTokens)

@@ -355,10 +355,13 @@ export { Options };
 export function check(source: string, options?: Options): void;
 
 /**
- * The document that a source is. Throws a FirthnapkinError if it isn't one, a bracket is nested deeper, or a token is one too many,
- * before anything is built; at the first operation beyond a limit on operations, and with such a limit at a spread that one can't
- * be expanded with; a TypeError if the source or its name is no string, a limit no number, or the options are no object or
- * have a name that `Options` lacks; a RangeError if a limit is no integer of its range; an Error if memory runs out.
+ * Parses a source. Throws
+ *
+ * - a FirthnapkinError if the source isn't a document, is nested too deep, has a token past the limit or an operation past one, or,
+ *   with a limit on operations, if one reaches a spread of an unknown or cyclic fragment
+ * - a TypeError if the source or its name is no string, a limit no number, or the options are no object or have an unknown name
+ * - a RangeError if a limit is no integer of its range
+ * - an Error if memory runs out
  */
 export function parse(source: string, options?: Options): Document;
 

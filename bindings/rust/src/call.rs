@@ -1,4 +1,4 @@
-//! The calls of the library. All unsafe code is here, but for the look at the thread's stack.
+//! The calls of the library. All unsafe code is here, except what asks for the thread's stack.
 
 use crate::complexity::{self, Lengths, RawComplexity, Written};
 use crate::document::{Document, Position, RawNode, Tree};
@@ -140,10 +140,9 @@ pub fn parse(source: &str) -> Result<Document<'_>, Error> {
     parse_within(source, Limits::default())
 }
 
-/// The document that a source is, within these limits. The source is read once. One with too many tokens is refused at the
-/// first one too many, before anything is built; one with a depth above [`MAX_DEPTH`] is not read. The first operation beyond a
-/// limit on operations is refused where it begins; with such a limit a spread that can't be expanded is refused, too, if an
-/// operation reaches it.
+/// Parses a source within limits. The source is read once, and not at all if the depth is above [`MAX_DEPTH`]. The error of too
+/// many tokens is at the first token past the limit, and found before anything is built. The first operation past a limit is an
+/// error at its start. With a limit on operations, a reachable spread of an unknown or cyclic fragment is also an error.
 pub fn parse_within(source: &str, limits: Limits) -> Result<Document<'_>, Error> {
     within(&limits, || {
         if limits.has_sizes() {
@@ -204,8 +203,7 @@ pub fn tokens(source: &str) -> Result<Tokens<'_>, Error> {
     tokens_within(source, u32::MAX)
 }
 
-/// The same of a source that may have no more than so many tokens, its end not counted. One with more is refused at the first one
-/// too many.
+/// The same with a limit on the number of tokens, the end not counted. The error is at the first token past the limit.
 pub fn tokens_within(source: &str, max_tokens: u32) -> Result<Tokens<'_>, Error> {
     stack::with(0, || tokens_here(source, max_tokens)).unwrap_or(Err(Error::OutOfMemory))
 }

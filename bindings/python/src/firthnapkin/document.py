@@ -18,7 +18,7 @@ __all__ = ["Document"]
 
 
 class Document(Parts[Node]):
-    """A document's nodes, each part before the parts in it. A node object is made each time that one is asked for."""
+    """A document's nodes, each before its children. Node objects are made on request."""
 
     __slots__ = ("_source", "_texts", "_parent", "_complexities", "_name")
 

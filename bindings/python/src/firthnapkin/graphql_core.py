@@ -54,7 +54,8 @@ def parse(
 
     Raises GraphQLSyntaxError as graphql-core does; at the first token past `depth` or `max_tokens`, before anything from there on
     is parsed; and at the token that was reached when graphql-core's parser, which recurses, had no more room on the stack.
-    Raises GraphQLError at the first operation past a limit on operations, and at a spread that one can't be expanded with.
+    Raises GraphQLError at the first operation past a limit on operations; with such a limit, also at a reachable spread of an
+    unknown or cyclic fragment.
     Raises TypeError if a limit is no int, and for an argument that graphql-core's parse doesn't have; ValueError if the depth
     is below 0 or above MAX_DEPTH, or another limit below 0. A `max_tokens` that is no int is compared with the number of tokens
     as graphql-core compares it.

@@ -100,11 +100,11 @@ class Tokens(Parts[Token]):
 def tokens(source: str, *, name: Optional[str] = None, max_tokens: Optional[int] = None) -> Tokens:
     """Returns the tokens of a text. The last one is its end. Other threads run meanwhile.
 
-    White space, line ends, commas, comments and byte order marks are no tokens. With `max_tokens` the text may have no more
-    tokens than that, its end not counted. A text with more is refused at the first token too many, whatever comes after it but
-    a lone surrogate. The name is that of the text, as of a file: errors have it as their `source_name`.
+    White space, line ends, commas, comments and byte order marks are no tokens. With `max_tokens`, which doesn't
+    count the end, the error is at the first token past the limit. Of the text after that token, only a lone surrogate is an
+    error before it. The name is that of the text, as of a file: errors have it as their `source_name`.
 
-    Raises FirthnapkinError, a ValueError, at the first position that has no token, or at the first token too many; TypeError
+    Raises FirthnapkinError, a ValueError, at the first position that has no token, or at the first token past the limit; TypeError
     if the source is no str, the name neither a str nor None, or max_tokens neither an int nor None; ValueError if max_tokens is below 0, or the text has
     4 GiB or more; MemoryError if memory runs out.
     """

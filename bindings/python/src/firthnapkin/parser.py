@@ -28,12 +28,12 @@ def parse(
 ) -> Document:
     """Returns the document of a text, with brackets nested at most `depth` deep. Other threads run meanwhile.
 
-    With `max_tokens` the text may have no more tokens than that. A text with more is refused at the first token too many,
-    before anything is built from it, whatever comes after it but a lone surrogate.
+    With `max_tokens` the error is at the first token past the limit, and found before anything is built. Of the text after that
+    token, only a lone surrogate is an error before it.
 
     The other limits are on the numbers of each operation's `complexity`, which counts with every fragment expanded. The first
-    operation beyond one of them is refused where it begins, with a message that has the number and the limit. With such a
-    limit a spread that can't be expanded is refused, too, if an operation reaches it.
+    operation past one of them is an error at its start; the message has the number and the limit. With such a limit, a
+    reachable spread of an unknown or cyclic fragment is also an error.
 
     The name is that of the text, as of a file: errors have it as their `source_name`.
 
