@@ -5,7 +5,7 @@ import re
 from pathlib import Path
 
 CRATES = Path(__file__).resolve().parent.parent / "crates"
-FAULTS = "firthnapkin_results/specs/Faults.antt"
+ERRORS = "firthnapkin_results/specs/Errors.antt"
 
 # Where the numbers of a table are: a file, and a pattern for a name and its number.
 NUMBERS = {
@@ -16,12 +16,12 @@ NUMBERS = {
     ],
     "tokens": [("firthnapkin_results/specs/Tokens.antt", r"^kind_number kind\.(\w+) = (\d+)$")],
     "errors": [
-        (FAULTS, r"^(?:error_reason )?\(?(?:errors\.)?(\w+?)(?:_reason)?(?: t\))? = because (\d+) 0 0$"),
-        (FAULTS, r"^(lexical)_reason .* = because (\d+) "),
+        (ERRORS, r"^(?:error_reason )?\(?(?:errors\.)?(\w+?)(?:_reason)?(?: t\))? = because (\d+) 0 0$"),
+        (ERRORS, r"^(lexical)_reason .* = because (\d+) "),
     ],
     "details": [
-        (FAULTS, r"^lexical_reason \(?(\w+).* = because 2 (\d+) "),
-        ("firthnapkin_results/src/fault.rt", r"^pub const (NO_DETAIL): u32 = (\d+);"),
+        (ERRORS, r"^lexical_reason \(?(\w+).* = because 2 (\d+) "),
+        ("firthnapkin_results/src/error.rt", r"^pub const (NO_DETAIL): u32 = (\d+);"),
     ],
 }
 # Where the order of a table's first rows is: a file, and a pattern for a name.
@@ -29,10 +29,10 @@ ORDERS = {
     "kinds": ("graphql_nodes/src/kind.rt", r"^    (?!Scalar)(\w+),$"),
     "tokens": ("graphql_lexical/src/kind.rt", r"^    (\w+),$"),
     "limits": ("firthnapkin_results/src/limits.rt", r"^    pub (\w+): u32,$"),
-    "complexity": ("firthnapkin_results/specs/Weighed.antt", r"^  (\w+) = saturated found\.complexity\."),
+    "complexity": ("firthnapkin_results/specs/Complexities.antt", r"^  (\w+) = saturated found\.complexity\."),
 }
 TEXTS = ("graphql_lexical/specs/Kinds.antt", r'^spelling (\w+) = Fixed \(codes "(.*)"\)$')
-CHARACTERS = (FAULTS, r"^lexical_reason \((\w+) c\) = because .* c$")
+CHARACTERS = (ERRORS, r"^lexical_reason \((\w+) c\) = because .* c$")
 
 
 def found(file, pattern):
@@ -64,4 +64,4 @@ def compared(tables):
     words = {name: row["words"] for name, row in named["tokens"].items() if "`" in row["words"]}
     yield words == texts, f"tables.toml: the words of punctuators are not their texts in {TEXTS[0]}"
     characters = {name for name, row in named["details"].items() if "character" in row}
-    yield characters == {plain(it) for it in found(*CHARACTERS)}, f"tables.toml: other details have a character in {FAULTS}"
+    yield characters == {plain(it) for it in found(*CHARACTERS)}, f"tables.toml: other details have a character in {ERRORS}"

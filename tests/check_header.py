@@ -24,12 +24,10 @@ def source(name, crate="firthnapkin_results"):
 
 # For each type of a field its size and alignment, and its name in C.
 SIZES = {"u32": (4, 4), "i64": (8, 8)}
-C_NAMES = {"u32": "uint32_t", "i64": "int64_t", "Place": "firthnapkin_position"}
+C_NAMES = {"u32": "uint32_t", "i64": "int64_t", "Position": "firthnapkin_position"}
 # The reserved words of limits.
 SIZES.update({f"[u32; {count}]": (4 * count, 4) for count in range(8)})
 C_NAMES.update({f"[u32; {count}]": f"uint32_t[{count}]" for count in range(8)})
-# What the header calls them where the crates have another word.
-WORDS = {"Place": "position", "Fault": "error", "Numbers": "complexity"}
 
 
 def fields_of(name, text):
@@ -41,7 +39,7 @@ def fields_of(name, text):
 def laid_out(name, text):
     """The lines of layout.c for a struct with C's layout: each field at the next multiple of its alignment."""
     lines, offset, most = [], 0, 1
-    word = f"firthnapkin_{WORDS.get(name, name.lower())}"
+    word = f"firthnapkin_{name.lower()}"
     for field, kind in fields_of(name, text):
         size, alignment = SIZES[kind]
         offset += -offset % alignment
@@ -55,25 +53,19 @@ def laid_out(name, text):
 
 with open(sys.argv[1], encoding="utf-8") as file:
     layout = file.read().splitlines()
-for name, file in (
-    ("Place", "place"),
-    ("Node", "node"),
-    ("Token", "token"),
-    ("Numbers", "numbers"),
-    ("Fault", "fault"),
-    ("Limits", "limits"),
-):
-    wanted = laid_out(name, source(file))
-    word = f"firthnapkin_{WORDS.get(name, name.lower())}"
+for name in ("Position", "Node", "Token", "Complexity", "Error", "Limits"):
+    text = source(name.lower())
+    wanted = laid_out(name, text)
+    word = f"firthnapkin_{name.lower()}"
     found = [line for line in layout if line.split()[0] == word]
     check(f"the number of fields of {word}", len(found), len(wanted))
     for line, other in zip(found, wanted):
         check(word, line, other)
-    typed = [(field, C_NAMES[kind]) for field, kind in fields_of(name, source(file))]
+    typed = [(field, C_NAMES[kind]) for field, kind in fields_of(name, text)]
     check(f"the types of the fields of {word}", declared(word), typed)
 check("the size of a node", SIZES["Node"][0], 64)
 check("the size of a token", SIZES["Token"][0], 40)
-check("the size of a complexity", SIZES["Numbers"][0], 24)
+check("the size of a complexity", SIZES["Complexity"][0], 24)
 check("the size of limits, which stays", SIZES["Limits"][0], 32)
 
 # ---- limits
@@ -95,10 +87,10 @@ C_TYPES = {
     "nodes_length: &mut usize": ["size_t *nodes_length"],
     "texts: &mut [u8]": ["uint8_t *texts", "size_t texts_capacity"],
     "texts_length: &mut usize": ["size_t *texts_length"],
-    "complexities: &mut [Numbers]": ["firthnapkin_complexity *complexities", "size_t complexities_capacity"],
+    "complexities: &mut [Complexity]": ["firthnapkin_complexity *complexities", "size_t complexities_capacity"],
     "complexities_length: &mut usize": ["size_t *complexities_length"],
-    "fault: &mut Fault": ["firthnapkin_error *error"],
-    "fault: &Fault": ["const firthnapkin_error *error"],
+    "error: &mut Error": ["firthnapkin_error *error"],
+    "error: &Error": ["const firthnapkin_error *error"],
     "buffer: &mut [u8]": ["uint8_t *buffer", "size_t buffer_capacity"],
     "buffer_length: &mut usize": ["size_t *buffer_length"],
     "tokens: &mut [Token]": ["firthnapkin_token *tokens", "size_t tokens_capacity"],

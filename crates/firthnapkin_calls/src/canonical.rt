@@ -6,14 +6,14 @@ ghost use Rattle.graphql_lexical.specs.Kinds.{LexicalError};
 ghost use Rattle.graphql_lexical.specs.Canonical.{canonical};
 ghost use Rattle.graphql_lexical.specs.Cutting.{Lexeme, Breaks};
 ghost use Rattle.juniper_parser.specs.Promise.{lexical_fault};
-ghost use Rattle.firthnapkin_results.specs.Faults.{written_fault};
+ghost use Rattle.firthnapkin_results.specs.Errors.{written_error};
 ghost use Rattle.firthnapkin_results.specs.Answers.{Begins};
 ghost use Rattle.firthnapkin_results.specs.Tokens.{HasTokens};
 ghost use Rattle.firthnapkin_results.specs.CanonicalTexts.{IsCanonicalStatus};
 
 use firthnapkin_results::buffer::fill;
 use firthnapkin_results::canonical::{Canonical, canonical_of};
-use firthnapkin_results::fault::Fault;
+use firthnapkin_results::error::Error;
 use firthnapkin_results::status::{
     BUFFER_TOO_SMALL, NOT_UTF8, OK, OUT_OF_MEMORY, SOURCE_TOO_LONG, SYNTAX_ERROR,
 };
@@ -26,7 +26,7 @@ pub extern "C" fn firthnapkin_canonical(
     source: &[u8],
     buffer: &mut [u8],
     buffer_length: &mut usize,
-    fault: &mut Fault,
+    error: &mut Error,
 ) -> u32
     // header: It also returns FIRTHNAPKIN_NOT_UTF8, FIRTHNAPKIN_OUT_OF_MEMORY and FIRTHNAPKIN_SOURCE_TOO_LONG.
     ensures statuses { IsCanonicalStatus result }
@@ -49,9 +49,9 @@ pub extern "C" fn firthnapkin_canonical(
 
     // header: FIRTHNAPKIN_SYNTAX_ERROR: the source can't be tokenized, and the error is its first lexical error, of
     // the kind FIRTHNAPKIN_ERROR_LEXICAL. FIRTHNAPKIN_SYNTAX_ERROR: the source is UTF-8, and has a syntax error.
-    ensures refused { result ≡ SYNTAX_ERROR → IsUtf8 source.now × ((error : LexicalError) × (at : places.Place)
-        × Breaks (chars source.now) error at
-        × (fault.new ≡ written_fault (chars source.now) (lexical_fault error at))) }
+    ensures refused { result ≡ SYNTAX_ERROR → IsUtf8 source.now × ((lexical : LexicalError) × (at : places.Place)
+        × Breaks (chars source.now) lexical at
+        × (error.new ≡ written_error (chars source.now) (lexical_fault lexical at))) }
 
     // header: FIRTHNAPKIN_OUT_OF_MEMORY may be returned in place of lines 5 to 10.
     ensures memory { result ≡ OUT_OF_MEMORY → IsUtf8 source.now }
@@ -69,13 +69,13 @@ pub extern "C" fn firthnapkin_canonical(
     ensures no_count { result ≢ OK → result ≢ BUFFER_TOO_SMALL → buffer_length.new ≡ 0 }
 
     // header: All but FIRTHNAPKIN_SYNTAX_ERROR leave the error as it was.
-    ensures fault_kept { result ≢ SYNTAX_ERROR → fault.new ≡ fault.old }
+    ensures error_kept { result ≢ SYNTAX_ERROR → error.new ≡ error.old }
 {
     *buffer_length = 0;
     match canonical_of(alloc, source) {
         Ok(Canonical::Text(text)) => fill(buffer, buffer_length, text.as_bytes(), OK),
         Ok(Canonical::Refused(found)) => {
-            *fault = found;
+            *error = found;
             SYNTAX_ERROR
         }
         Err(unread) => unread.status(),

@@ -2,12 +2,12 @@
 ghost use Rattle.std.specs.Prelude.{◌≡◌, ◌≢◌, ◌≤◌, ◌^◌, ◌↔◌, [], length, IsUtf8};
 ghost use Rattle.std.specs.Str.{chars};
 ghost use Rattle.graphql_lexical.specs.Place as places;
-ghost use Rattle.firthnapkin_results.specs.Faults.{many_fault};
+ghost use Rattle.firthnapkin_results.specs.Errors.{too_many_tokens_error};
 ghost use Rattle.juniper_tokens.specs.Counting.{HasFew, HasMore};
 ghost use Rattle.firthnapkin_results.specs.TokenCounts.{IsCountStatus};
 
 use firthnapkin_results::count::{Counted, count_of};
-use firthnapkin_results::fault::Fault;
+use firthnapkin_results::error::Error;
 use firthnapkin_results::status::{NOT_UTF8, OK, OUT_OF_MEMORY, SOURCE_TOO_LONG, TOO_MANY_TOKENS};
 use std::alloc::Global;
 
@@ -18,7 +18,7 @@ pub extern "C" fn firthnapkin_count(
     alloc: Global,
     source: &[u8],
     max_tokens: u32,
-    fault: &mut Fault,
+    error: &mut Error,
 ) -> u32
     // header: It also returns FIRTHNAPKIN_NOT_UTF8 and FIRTHNAPKIN_SOURCE_TOO_LONG.
     ensures statuses { IsCountStatus result }
@@ -32,7 +32,7 @@ pub extern "C" fn firthnapkin_count(
     // past the limit; what is after it is UTF-8, and may have lexical errors.
     ensures many { result ≡ TOO_MANY_TOKENS → IsUtf8 source.now
         × ((span : places.Span) × HasMore [] (chars source.now) max_tokens span
-        × (fault.new ≡ many_fault (chars source.now) span)) }
+        × (error.new ≡ too_many_tokens_error (chars source.now) span)) }
 
     // header: The whole source is checked as UTF-8. FIRTHNAPKIN_OUT_OF_MEMORY: there are more, and there was no memory
     // for the error's positions.
@@ -46,12 +46,12 @@ pub extern "C" fn firthnapkin_count(
     ensures too_long { result ≡ SOURCE_TOO_LONG ↔ 2 ^ 32 ≤ length source.now }
 
     // header: All statuses but FIRTHNAPKIN_TOO_MANY_TOKENS leave the error as it was.
-    ensures fault_kept { result ≢ TOO_MANY_TOKENS → fault.new ≡ fault.old }
+    ensures error_kept { result ≢ TOO_MANY_TOKENS → error.new ≡ error.old }
 {
     match count_of(alloc, source, max_tokens) {
         Ok(Counted::Few) => OK,
         Ok(Counted::Many(found)) => {
-            *fault = found;
+            *error = found;
             TOO_MANY_TOKENS
         }
         Err(unread) => unread.status(),

@@ -5,8 +5,8 @@ ghost use Rattle.firthnapkin_results.specs.Excerpts.{IsBorder, excerpt_bytes};
 ghost use Rattle.firthnapkin_results.specs.Messages.{IsWordsStatus};
 
 use firthnapkin_results::buffer::fill;
+use firthnapkin_results::error::Error;
 use firthnapkin_results::excerpt::excerpt_of;
-use firthnapkin_results::fault::Fault;
 use firthnapkin_results::status::{
     BUFFER_TOO_SMALL, INVALID_ERROR, NOT_UTF8, OK, OUT_OF_MEMORY, SOURCE_TOO_LONG,
 };
@@ -17,7 +17,7 @@ use std::alloc::Global;
 pub extern "C" fn firthnapkin_excerpt(
     alloc: Global,
     source: &[u8],
-    fault: &Fault,
+    error: &Error,
     buffer: &mut [u8],
     buffer_length: &mut usize,
 ) -> u32
@@ -30,22 +30,22 @@ pub extern "C" fn firthnapkin_excerpt(
     // before a line feed isn't shown, and any other is shown as a space. Of a line of more than 120 characters the 80
     // from 40 before the error's column are shown. A row ends at its bar if nothing of its line is shown. Only
     // error->start.byte is read of the error: the line and the column are those of that byte of the source.
-    ensures lines { result ≡ OK → IsUtf8 source.now × (IsBorder source.now fault.now.start.byte
-        × (Begins (excerpt_bytes source.now fault.now.start.byte) buffer.old buffer.new
-        × (buffer_length.new ≡ length (excerpt_bytes source.now fault.now.start.byte)))) }
+    ensures lines { result ≡ OK → IsUtf8 source.now × (IsBorder source.now error.now.start.byte
+        × (Begins (excerpt_bytes source.now error.now.start.byte) buffer.old buffer.new
+        × (buffer_length.new ≡ length (excerpt_bytes source.now error.now.start.byte)))) }
 
     // header: After each of them `buffer` and `buffer_length` are as after that call, with the lines in place of the
     // words.
-    ensures too_small { result ≡ BUFFER_TOO_SMALL → IsUtf8 source.now × (IsBorder source.now fault.now.start.byte
-        × ((length buffer.old < length (excerpt_bytes source.now fault.now.start.byte))
-        × (buffer_length.new ≡ length (excerpt_bytes source.now fault.now.start.byte)))) }
+    ensures too_small { result ≡ BUFFER_TOO_SMALL → IsUtf8 source.now × (IsBorder source.now error.now.start.byte
+        × ((length buffer.old < length (excerpt_bytes source.now error.now.start.byte))
+        × (buffer_length.new ≡ length (excerpt_bytes source.now error.now.start.byte)))) }
 
     // header: FIRTHNAPKIN_INVALID_ERROR: that byte is within a character of the source, or after its end.
-    ensures invalid { result ≡ INVALID_ERROR → IsUtf8 source.now × ¬ IsBorder source.now fault.now.start.byte }
+    ensures invalid { result ≡ INVALID_ERROR → IsUtf8 source.now × ¬ IsBorder source.now error.now.start.byte }
 
     // There are lines, but there was no memory for them.
     // header: FIRTHNAPKIN_OUT_OF_MEMORY may be returned in place of lines 5 to 10.
-    ensures memory { result ≡ OUT_OF_MEMORY → IsUtf8 source.now × IsBorder source.now fault.now.start.byte }
+    ensures memory { result ≡ OUT_OF_MEMORY → IsUtf8 source.now × IsBorder source.now error.now.start.byte }
 
     // header: FIRTHNAPKIN_NOT_UTF8: the source is not UTF-8.
     ensures not_utf8 { result ≡ NOT_UTF8 → ¬ IsUtf8 source.now }
@@ -62,7 +62,7 @@ pub extern "C" fn firthnapkin_excerpt(
     ensures no_lines { result ≢ OK → result ≢ BUFFER_TOO_SMALL → buffer_length.new ≡ 0 }
 {
     *buffer_length = 0;
-    match excerpt_of(alloc, source, fault.start.byte) {
+    match excerpt_of(alloc, source, error.start.byte) {
         Ok(Some(lines)) => fill(buffer, buffer_length, lines.as_bytes(), OK),
         Ok(None) => INVALID_ERROR,
         Err(unread) => unread.status(),

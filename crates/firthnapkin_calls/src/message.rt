@@ -4,7 +4,7 @@ ghost use Rattle.firthnapkin_results.specs.Answers.{Begins};
 ghost use Rattle.firthnapkin_results.specs.Messages.{AreWords, HasWords, IsNoErrorOf, IsWordsStatus};
 
 use firthnapkin_results::buffer::fill;
-use firthnapkin_results::fault::Fault;
+use firthnapkin_results::error::Error;
 use firthnapkin_results::message::message_of;
 use firthnapkin_results::status::{
     BUFFER_TOO_SMALL, INVALID_ERROR, NOT_UTF8, OK, OUT_OF_MEMORY, SOURCE_TOO_LONG,
@@ -16,7 +16,7 @@ use std::alloc::Global;
 pub extern "C" fn firthnapkin_message(
     alloc: Global,
     source: &[u8],
-    fault: &Fault,
+    error: &Error,
     buffer: &mut [u8],
     buffer_length: &mut usize,
 ) -> u32
@@ -28,12 +28,12 @@ pub extern "C" fn firthnapkin_message(
     // these. FIRTHNAPKIN_OK: the words are at the beginning of `buffer`, the rest of which is as it was, and
     // `buffer_length` is the number of their bytes.
     ensures words { result ≡ OK → IsUtf8 source.now
-        × ((message : List ℕ) × (0 < length message) × AreWords source.now fault.now message
+        × ((message : List ℕ) × (0 < length message) × AreWords source.now error.now message
         × Begins message buffer.old buffer.new × (buffer_length.new ≡ length message)) }
 
     // header: FIRTHNAPKIN_BUFFER_TOO_SMALL: they have `buffer_length` bytes, more than `buffer_capacity`.
     ensures too_small { result ≡ BUFFER_TOO_SMALL → IsUtf8 source.now
-        × ((message : List ℕ) × AreWords source.now fault.now message
+        × ((message : List ℕ) × AreWords source.now error.now message
         × (length buffer.old < length message) × (buffer_length.new ≡ length message)) }
 
     // No call on the source gives the error, and it has no words.
@@ -41,11 +41,11 @@ pub extern "C" fn firthnapkin_message(
     // even if it is of another source. FIRTHNAPKIN_INVALID_ERROR: the error that was given has no words, or no lines,
     // in this source.
     ensures invalid { result ≡ INVALID_ERROR → IsUtf8 source.now
-        × (IsNoErrorOf source.now fault.now × ¬ HasWords source.now fault.now) }
+        × (IsNoErrorOf source.now error.now × ¬ HasWords source.now error.now) }
 
     // It has words, but there was no memory for them.
     // header: FIRTHNAPKIN_OUT_OF_MEMORY may be returned in place of lines 5 to 10.
-    ensures memory { result ≡ OUT_OF_MEMORY → IsUtf8 source.now × HasWords source.now fault.now }
+    ensures memory { result ≡ OUT_OF_MEMORY → IsUtf8 source.now × HasWords source.now error.now }
 
     // header: FIRTHNAPKIN_NOT_UTF8: the source is not UTF-8.
     ensures not_utf8 { result ≡ NOT_UTF8 → ¬ IsUtf8 source.now }
@@ -60,7 +60,7 @@ pub extern "C" fn firthnapkin_message(
     ensures no_message { result ≢ OK → result ≢ BUFFER_TOO_SMALL → buffer_length.new ≡ 0 }
 {
     *buffer_length = 0;
-    match message_of(alloc, source, fault) {
+    match message_of(alloc, source, error) {
         Ok(Some(words)) => fill(buffer, buffer_length, words.as_bytes(), OK),
         Ok(None) => INVALID_ERROR,
         Err(unread) => unread.status(),

@@ -5,14 +5,14 @@ ghost use Rattle.juniper_values.specs.Scalar.{Content};
 ghost use Rattle.firthnapkin_results.specs.Answers.{HasDocument, ReportsFailure, nodes_of, texts_of, Begins, Fills, IsStatus};
 
 use crate::reported::reported;
-use firthnapkin_results::fault::Fault;
+use firthnapkin_results::error::Error;
 use firthnapkin_results::flat::write_nodes;
 use firthnapkin_results::limits::Limits;
 use firthnapkin_results::node::Node;
 use firthnapkin_results::status::{BUFFER_TOO_SMALL, OK, SYNTAX_ERROR, TOO_DEEP, TOO_MANY_TOKENS};
 use std::alloc::Global;
 
-/// Writes the nodes of a source's tree and their texts into the caller's buffers, as far as they fit, or its fault.
+/// Writes the nodes of a source's tree and their texts into the caller's buffers, as far as they fit, or its error.
 #[unsafe(no_mangle)]
 pub extern "C" fn firthnapkin_parse(
     alloc: Global,
@@ -22,7 +22,7 @@ pub extern "C" fn firthnapkin_parse(
     nodes_length: &mut usize,
     texts: &mut [u8],
     texts_length: &mut usize,
-    fault: &mut Fault,
+    error: &mut Error,
 ) -> u32
     // header: It also returns FIRTHNAPKIN_NOT_UTF8, FIRTHNAPKIN_OUT_OF_MEMORY, FIRTHNAPKIN_SOURCE_TOO_LONG and
     // FIRTHNAPKIN_INVALID_LIMIT.
@@ -58,13 +58,13 @@ pub extern "C" fn firthnapkin_parse(
     // first lexical error. FIRTHNAPKIN_NOT_UTF8: the source is not UTF-8. FIRTHNAPKIN_SOURCE_TOO_LONG: the source has
     // 4 GiB or more. FIRTHNAPKIN_INVALID_LIMIT: the depth is above FIRTHNAPKIN_MAX_DEPTH, or a reserved word isn't 0.
     // FIRTHNAPKIN_OUT_OF_MEMORY may be returned in place of lines 5 to 10.
-    ensures failures { ReportsFailure source.now limits.now nodes.old nodes.new texts.old texts.new fault.new result }
+    ensures failures { ReportsFailure source.now limits.now nodes.old nodes.new texts.old texts.new error.new result }
 
     // header: All others set both lengths to 0.
     ensures no_counts { result ≢ OK → result ≢ BUFFER_TOO_SMALL → (nodes_length.new ≡ 0) × (texts_length.new ≡ 0) }
 
     // header: The others leave it as it was.
-    ensures fault_kept { result ≢ SYNTAX_ERROR → result ≢ TOO_DEEP → result ≢ TOO_MANY_TOKENS → fault.new ≡ fault.old }
+    ensures error_kept { result ≢ SYNTAX_ERROR → result ≢ TOO_DEEP → result ≢ TOO_MANY_TOKENS → error.new ≡ error.old }
 {
     reported!(
         write_nodes(alloc, source, limits, nodes, texts),
@@ -74,6 +74,6 @@ pub extern "C" fn firthnapkin_parse(
         nodes_length,
         texts,
         texts_length,
-        fault
+        error
     )
 }

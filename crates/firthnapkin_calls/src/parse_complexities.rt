@@ -5,23 +5,23 @@ ghost use Rattle.graphql_lexical.specs.Place as places;
 ghost use Rattle.graphql_grammar.specs.Tree.{Definition};
 ghost use Rattle.juniper_values.specs.Scalar.{Content};
 ghost use Rattle.firthnapkin_results.specs.Answers.{HasDocument, ReportsFailure, Begins, Fills, nodes_of, texts_of};
-ghost use Rattle.firthnapkin_results.specs.Faults.{unknown_fault, cycle_fault};
-ghost use Rattle.firthnapkin_results.specs.Weighed.{HasUnknown, HasCycle, HaveNumbers, IsWeighedStatus};
-ghost use Rattle.firthnapkin_results.specs.declared.numbers.Numbers.{Numbers as Weights};
+ghost use Rattle.firthnapkin_results.specs.Errors.{unknown_fragment_error, fragment_cycle_error};
+ghost use Rattle.firthnapkin_results.specs.Complexities.{HasUnknown, HasCycle, HaveComplexities, IsComplexitiesStatus};
+ghost use Rattle.firthnapkin_results.specs.declared.complexity.Complexity.{Complexity as Measure};
 
-use firthnapkin_results::fault::Fault;
+use firthnapkin_results::complexities::{Measured, write_nodes_and_complexities};
+use firthnapkin_results::complexity::Complexity;
+use firthnapkin_results::error::Error;
 use firthnapkin_results::limits::{Limits, are_refused};
 use firthnapkin_results::node::Node;
-use firthnapkin_results::numbers::Numbers;
 use firthnapkin_results::status::{
     BUFFER_TOO_SMALL, FRAGMENT_CYCLE, INVALID_LIMIT, NOT_UTF8, OK, OUT_OF_MEMORY, SOURCE_TOO_LONG,
     SYNTAX_ERROR, TOO_DEEP, TOO_MANY_TOKENS, UNKNOWN_FRAGMENT,
 };
-use firthnapkin_results::weighed::{Weighed, write_nodes_and_complexities};
 use std::alloc::Global;
 
 /// Writes the nodes of a source's tree, their texts and the complexity of each operation into the caller's buffers, as
-/// far as they fit, or its fault.
+/// far as they fit, or its error.
 #[unsafe(no_mangle)]
 pub extern "C" fn firthnapkin_parse_complexities(
     alloc: Global,
@@ -31,12 +31,12 @@ pub extern "C" fn firthnapkin_parse_complexities(
     nodes_length: &mut usize,
     texts: &mut [u8],
     texts_length: &mut usize,
-    complexities: &mut [Numbers],
+    complexities: &mut [Complexity],
     complexities_length: &mut usize,
-    fault: &mut Fault,
+    error: &mut Error,
 ) -> u32
     // header: It also returns the other statuses of firthnapkin_parse.
-    ensures statuses { IsWeighedStatus result }
+    ensures statuses { IsComplexitiesStatus result }
 
     // header: Parses a source within limits as firthnapkin_parse does, and finds how large each of its operations is.
     // FIRTHNAPKIN_OK: as there, and the operations' numbers are at the beginning of `complexities`, in the order of
@@ -45,8 +45,8 @@ pub extern "C" fn firthnapkin_parse_complexities(
     ensures tree { result ≡ OK → (tree : List (Definition Content)) × HasDocument source.now limits.now tree
         × Begins (nodes_of source.now tree) nodes.old nodes.new × Begins (texts_of tree) texts.old texts.new
         × (nodes_length.new ≡ length (nodes_of source.now tree)) × (texts_length.new ≡ length (texts_of tree))
-        × ((numbers : List Weights) × HaveNumbers tree numbers × Begins numbers complexities.old complexities.new
-        × (complexities_length.new ≡ length numbers)) }
+        × ((found : List Measure) × HaveComplexities tree found × Begins found complexities.old complexities.new
+        × (complexities_length.new ≡ length found)) }
 
     // header: FIRTHNAPKIN_BUFFER_TOO_SMALL: as there, and it may be this array that is too small. Both set
     // `complexities_length` to the number of operations. If `complexities_length` is at most the capacity, the array
@@ -56,10 +56,10 @@ pub extern "C" fn firthnapkin_parse_complexities(
         × HasDocument source.now limits.now tree
         × Fills (nodes_of source.now tree) nodes.old nodes.new × Fills (texts_of tree) texts.old texts.new
         × (nodes_length.new ≡ length (nodes_of source.now tree)) × (texts_length.new ≡ length (texts_of tree))
-        × ((numbers : List Weights) × HaveNumbers tree numbers × Fills numbers complexities.old complexities.new
-        × (complexities_length.new ≡ length numbers)
+        × ((found : List Measure) × HaveComplexities tree found × Fills found complexities.old complexities.new
+        × (complexities_length.new ≡ length found)
         × ((length nodes.old < length (nodes_of source.now tree))
-        ⊎ ((length texts.old < length (texts_of tree)) ⊎ (length complexities.old < length numbers)))) }
+        ⊎ ((length texts.old < length (texts_of tree)) ⊎ (length complexities.old < length found)))) }
 
     // header: An array of `length` complexities always suffices.
     ensures bounds { (nodes_length.new ≤ length source.now) × (texts_length.new ≤ length source.now)
@@ -75,7 +75,7 @@ pub extern "C" fn firthnapkin_parse_complexities(
         × HasDocument source.now limits.now tree
         × Fills (nodes_of source.now tree) nodes.old nodes.new × Fills (texts_of tree) texts.old texts.new
         × (nodes_length.new ≡ length (nodes_of source.now tree)) × (texts_length.new ≡ length (texts_of tree))
-        × ((span : places.Span) × HasUnknown tree span × (fault.new ≡ unknown_fault (chars source.now) span)) }
+        × ((span : places.Span) × HasUnknown tree span × (error.new ≡ unknown_fragment_error (chars source.now) span)) }
 
     // header: FIRTHNAPKIN_UNKNOWN_FRAGMENT and FIRTHNAPKIN_FRAGMENT_CYCLE: the source is a document, and an operation
     // can't be expanded. FIRTHNAPKIN_FRAGMENT_CYCLE: the source is a document, and a spread is within the fragment
@@ -84,10 +84,10 @@ pub extern "C" fn firthnapkin_parse_complexities(
         × HasDocument source.now limits.now tree
         × Fills (nodes_of source.now tree) nodes.old nodes.new × Fills (texts_of tree) texts.old texts.new
         × (nodes_length.new ≡ length (nodes_of source.now tree)) × (texts_length.new ≡ length (texts_of tree))
-        × ((span : places.Span) × HasCycle tree span × (fault.new ≡ cycle_fault (chars source.now) span)) }
+        × ((span : places.Span) × HasCycle tree span × (error.new ≡ fragment_cycle_error (chars source.now) span)) }
 
     // header: After these the nodes, the texts, their lengths and the error are as after that call.
-    ensures failures { ReportsFailure source.now limits.now nodes.old nodes.new texts.old texts.new fault.new result }
+    ensures failures { ReportsFailure source.now limits.now nodes.old nodes.new texts.old texts.new error.new result }
 
     // header: All others set it to 0, and leave the array as it was.
     ensures complexities_kept { result ≢ OK → result ≢ BUFFER_TOO_SMALL → (complexities.new ≡ complexities.old)
@@ -98,10 +98,10 @@ pub extern "C" fn firthnapkin_parse_complexities(
         → (nodes_length.new ≡ 0) × (texts_length.new ≡ 0) }
 
     // header: After these the nodes, the texts, their lengths and the error are as after that call.
-    ensures fault_kept { (result ≡ OK)
+    ensures error_kept { (result ≡ OK)
         ⊎ ((result ≡ BUFFER_TOO_SMALL) ⊎ ((result ≡ NOT_UTF8)
         ⊎ ((result ≡ OUT_OF_MEMORY) ⊎ ((result ≡ SOURCE_TOO_LONG) ⊎ (result ≡ INVALID_LIMIT)))))
-        → fault.new ≡ fault.old }
+        → error.new ≡ error.old }
 {
     *nodes_length = 0;
     *texts_length = 0;
@@ -110,7 +110,7 @@ pub extern "C" fn firthnapkin_parse_complexities(
         return INVALID_LIMIT;
     }
     match write_nodes_and_complexities(alloc, source, limits, nodes, texts, complexities) {
-        Ok(Weighed::Tree(lengths, count)) => {
+        Ok(Measured::Tree(lengths, count)) => {
             *nodes_length = lengths.nodes;
             *texts_length = lengths.texts;
             *complexities_length = count;
@@ -123,28 +123,28 @@ pub extern "C" fn firthnapkin_parse_complexities(
                 BUFFER_TOO_SMALL
             }
         }
-        Ok(Weighed::Unknown(lengths, found)) => {
+        Ok(Measured::Unknown(lengths, found)) => {
             *nodes_length = lengths.nodes;
             *texts_length = lengths.texts;
-            *fault = found;
+            *error = found;
             UNKNOWN_FRAGMENT
         }
-        Ok(Weighed::Cycle(lengths, found)) => {
+        Ok(Measured::Cycle(lengths, found)) => {
             *nodes_length = lengths.nodes;
             *texts_length = lengths.texts;
-            *fault = found;
+            *error = found;
             FRAGMENT_CYCLE
         }
-        Ok(Weighed::Refused(found)) => {
-            *fault = found;
+        Ok(Measured::Refused(found)) => {
+            *error = found;
             SYNTAX_ERROR
         }
-        Ok(Weighed::TooDeep(found)) => {
-            *fault = found;
+        Ok(Measured::TooDeep(found)) => {
+            *error = found;
             TOO_DEEP
         }
-        Ok(Weighed::TooMany(found)) => {
-            *fault = found;
+        Ok(Measured::TooMany(found)) => {
+            *error = found;
             TOO_MANY_TOKENS
         }
         Err(unread) => unread.status(),

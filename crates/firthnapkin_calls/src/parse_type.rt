@@ -6,7 +6,7 @@ ghost use Rattle.firthnapkin_results.specs.Answers.{Begins, Fills, IsStatus};
 ghost use Rattle.firthnapkin_results.specs.Literals.{IsOneType, ReportsNoType, nodes_of_type, texts_of_type};
 
 use crate::reported::reported;
-use firthnapkin_results::fault::Fault;
+use firthnapkin_results::error::Error;
 use firthnapkin_results::limits::Limits;
 use firthnapkin_results::literal::write_type_nodes;
 use firthnapkin_results::node::Node;
@@ -14,7 +14,7 @@ use firthnapkin_results::status::{BUFFER_TOO_SMALL, OK, SYNTAX_ERROR, TOO_DEEP, 
 use std::alloc::Global;
 
 /// Writes the node of a source that is one type, and how it is written without spaces, into the caller's buffers, as
-/// far as they fit, or its fault.
+/// far as they fit, or its error.
 #[unsafe(no_mangle)]
 pub extern "C" fn firthnapkin_parse_type(
     alloc: Global,
@@ -24,7 +24,7 @@ pub extern "C" fn firthnapkin_parse_type(
     nodes_length: &mut usize,
     texts: &mut [u8],
     texts_length: &mut usize,
-    fault: &mut Fault,
+    error: &mut Error,
 ) -> u32
     // header: Its statuses are those of firthnapkin_parse.
     ensures statuses { IsStatus result }
@@ -52,13 +52,13 @@ pub extern "C" fn firthnapkin_parse_type(
     // header: FIRTHNAPKIN_SYNTAX_ERROR, FIRTHNAPKIN_TOO_DEEP and FIRTHNAPKIN_TOO_MANY_TOKENS mean what they do there,
     // with 'type' for 'document', and so does the error. After all statuses but the first two the buffers, the lengths
     // and the error are as after that call.
-    ensures failures { ReportsNoType source.now limits.now nodes.old nodes.new texts.old texts.new fault.new result }
+    ensures failures { ReportsNoType source.now limits.now nodes.old nodes.new texts.old texts.new error.new result }
 
     // header: After all statuses but the first two the buffers, the lengths and the error are as after that call.
     ensures no_counts { result ≢ OK → result ≢ BUFFER_TOO_SMALL → (nodes_length.new ≡ 0) × (texts_length.new ≡ 0) }
 
     // header: After all statuses but the first two the buffers, the lengths and the error are as after that call.
-    ensures fault_kept { result ≢ SYNTAX_ERROR → result ≢ TOO_DEEP → result ≢ TOO_MANY_TOKENS → fault.new ≡ fault.old }
+    ensures error_kept { result ≢ SYNTAX_ERROR → result ≢ TOO_DEEP → result ≢ TOO_MANY_TOKENS → error.new ≡ error.old }
 {
     reported!(
         write_type_nodes(alloc, source, limits, nodes, texts),
@@ -68,6 +68,6 @@ pub extern "C" fn firthnapkin_parse_type(
         nodes_length,
         texts,
         texts_length,
-        fault
+        error
     )
 }

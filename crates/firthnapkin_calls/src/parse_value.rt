@@ -7,7 +7,7 @@ ghost use Rattle.firthnapkin_results.specs.Answers.{Begins, Fills, IsStatus};
 ghost use Rattle.firthnapkin_results.specs.Literals.{IsOneValue, ReportsNoValue, nodes_of_value, texts_of_value};
 
 use crate::reported::reported;
-use firthnapkin_results::fault::Fault;
+use firthnapkin_results::error::Error;
 use firthnapkin_results::limits::Limits;
 use firthnapkin_results::literal::write_value_nodes;
 use firthnapkin_results::node::Node;
@@ -15,7 +15,7 @@ use firthnapkin_results::status::{BUFFER_TOO_SMALL, OK, SYNTAX_ERROR, TOO_DEEP, 
 use std::alloc::Global;
 
 /// Writes the nodes of a source that is one value, and their texts, into the caller's buffers, as far as they fit, or
-/// its fault. The value is constant, and has no variables, if `constant` isn't 0.
+/// its error. The value is constant, and has no variables, if `constant` isn't 0.
 #[unsafe(no_mangle)]
 pub extern "C" fn firthnapkin_parse_value(
     alloc: Global,
@@ -26,7 +26,7 @@ pub extern "C" fn firthnapkin_parse_value(
     nodes_length: &mut usize,
     texts: &mut [u8],
     texts_length: &mut usize,
-    fault: &mut Fault,
+    error: &mut Error,
 ) -> u32
     // header: Its statuses are those of firthnapkin_parse.
     ensures statuses { IsStatus result }
@@ -59,13 +59,13 @@ pub extern "C" fn firthnapkin_parse_value(
     // with 'value' for 'document', and so does the error. After all statuses but the first two the buffers, the lengths
     // and the error are as after that call.
     ensures failures { ReportsNoValue (constant == 0) source.now limits.now nodes.old nodes.new texts.old texts.new
-        fault.new result }
+        error.new result }
 
     // header: After all statuses but the first two the buffers, the lengths and the error are as after that call.
     ensures no_counts { result ≢ OK → result ≢ BUFFER_TOO_SMALL → (nodes_length.new ≡ 0) × (texts_length.new ≡ 0) }
 
     // header: After all statuses but the first two the buffers, the lengths and the error are as after that call.
-    ensures fault_kept { result ≢ SYNTAX_ERROR → result ≢ TOO_DEEP → result ≢ TOO_MANY_TOKENS → fault.new ≡ fault.old }
+    ensures error_kept { result ≢ SYNTAX_ERROR → result ≢ TOO_DEEP → result ≢ TOO_MANY_TOKENS → error.new ≡ error.old }
 {
     reported!(
         write_value_nodes(alloc, source, constant != 0, limits, nodes, texts),
@@ -75,6 +75,6 @@ pub extern "C" fn firthnapkin_parse_value(
         nodes_length,
         texts,
         texts_length,
-        fault
+        error
     )
 }

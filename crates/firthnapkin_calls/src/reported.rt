@@ -1,6 +1,6 @@
 //! What a call that parses reports.
 
-/// Parses, unless the limits are refused, and reports what was parsed: its lengths or its fault. Gives the status. What
+/// Parses, unless the limits are refused, and reports what was parsed: its lengths or its error. Gives the status. What
 /// else is taken are the call's parameters.
 macro_rules! reported {
     (
@@ -11,7 +11,7 @@ macro_rules! reported {
         $nodes_length:ident,
         $texts:ident,
         $texts_length:ident,
-        $fault:ident
+        $error:ident
     ) => {{
         *$nodes_length = 0;
         *$texts_length = 0;
@@ -29,15 +29,15 @@ macro_rules! reported {
                 }
             }
             Ok(firthnapkin_results::flat::Parsed::Refused(found)) => {
-                *$fault = found;
+                *$error = found;
                 firthnapkin_results::status::SYNTAX_ERROR
             }
             Ok(firthnapkin_results::flat::Parsed::TooDeep(found)) => {
-                *$fault = found;
+                *$error = found;
                 firthnapkin_results::status::TOO_DEEP
             }
             Ok(firthnapkin_results::flat::Parsed::TooMany(found)) => {
-                *$fault = found;
+                *$error = found;
                 firthnapkin_results::status::TOO_MANY_TOKENS
             }
             Err(unread) => unread.status(),

@@ -6,12 +6,12 @@ ghost use Rattle.graphql_lexical.specs.Kinds.{LexicalError};
 ghost use Rattle.graphql_lexical.specs.Characters.{Text};
 ghost use Rattle.graphql_lexical.specs.Cutting.{Lexeme, Leads, Stands, Breaks};
 ghost use Rattle.juniper_parser.specs.Promise.{lexical_fault};
-ghost use Rattle.firthnapkin_results.specs.Faults.{written_fault, many_fault};
+ghost use Rattle.firthnapkin_results.specs.Errors.{written_error, too_many_tokens_error};
 ghost use Rattle.firthnapkin_results.specs.Answers.{Begins, Fills};
 ghost use Rattle.juniper_tokens.specs.Counting.{HasMore};
-ghost use Rattle.firthnapkin_results.specs.Tokens.{written_tokens, TellsText, HasTokens, HasFaultAfter, IsTokensStatus};
+ghost use Rattle.firthnapkin_results.specs.Tokens.{written_tokens, TellsText, HasTokens, HasErrorAfter, IsTokensStatus};
 
-use firthnapkin_results::fault::Fault;
+use firthnapkin_results::error::Error;
 use firthnapkin_results::status::{
     BUFFER_TOO_SMALL, NOT_UTF8, OK, OUT_OF_MEMORY, SOURCE_TOO_LONG, SYNTAX_ERROR, TOO_MANY_TOKENS,
 };
@@ -28,7 +28,7 @@ pub extern "C" fn firthnapkin_tokens(
     max_tokens: u32,
     tokens: &mut [Token],
     tokens_length: &mut usize,
-    fault: &mut Fault,
+    error: &mut Error,
 ) -> u32
     // header: It also returns FIRTHNAPKIN_NOT_UTF8, FIRTHNAPKIN_SOURCE_TOO_LONG and FIRTHNAPKIN_OUT_OF_MEMORY.
     ensures statuses { IsTokensStatus result }
@@ -51,17 +51,18 @@ pub extern "C" fn firthnapkin_tokens(
 
     // header: FIRTHNAPKIN_SYNTAX_ERROR: they are those before the first lexical error, which is the error, of the kind
     // FIRTHNAPKIN_ERROR_LEXICAL.
-    ensures refused { result ≡ SYNTAX_ERROR → (before : List Lexeme) × (error : LexicalError) × (at : places.Place)
-        × HasFaultAfter source.now before error at × (length before ≤ max_tokens)
+    ensures refused { result ≡ SYNTAX_ERROR → (before : List Lexeme) × (lexical : LexicalError) × (at : places.Place)
+        × HasErrorAfter source.now before lexical at × (length before ≤ max_tokens)
         × Fills (written_tokens (chars source.now) before) tokens.old tokens.new × (tokens_length.new ≡ length before)
-        × Breaks (chars source.now) error at × (fault.new ≡ written_fault (chars source.now) (lexical_fault error at)) }
+        × Breaks (chars source.now) lexical at
+        × (error.new ≡ written_error (chars source.now) (lexical_fault lexical at)) }
 
     // header: FIRTHNAPKIN_TOO_MANY_TOKENS: they are the first `max_tokens`, and the error is at the one after these;
     // what is after it is UTF-8, and may have lexical errors.
     ensures many { result ≡ TOO_MANY_TOKENS → IsUtf8 source.now
         × ((span : places.Span) × (more : HasMore [] (chars source.now) max_tokens span)
         × Fills (written_tokens (chars source.now) more.front) tokens.old tokens.new × (tokens_length.new ≡ max_tokens)
-        × (fault.new ≡ many_fault (chars source.now) span)) }
+        × (error.new ≡ too_many_tokens_error (chars source.now) span)) }
 
     // header: After FIRTHNAPKIN_OUT_OF_MEMORY it may begin with some of the source's first tokens.
     ensures memory { result ≡ OUT_OF_MEMORY → IsUtf8 source.now × ((some : List Lexeme) × (done after : Text)
@@ -91,7 +92,7 @@ pub extern "C" fn firthnapkin_tokens(
         → tokens_length.new ≡ 0 }
 
     // header: All statuses but FIRTHNAPKIN_SYNTAX_ERROR and FIRTHNAPKIN_TOO_MANY_TOKENS leave the error as it was.
-    ensures fault_kept { result ≢ SYNTAX_ERROR → result ≢ TOO_MANY_TOKENS → fault.new ≡ fault.old }
+    ensures error_kept { result ≢ SYNTAX_ERROR → result ≢ TOO_MANY_TOKENS → error.new ≡ error.old }
 {
     *tokens_length = 0;
     match tokens_of(alloc, source, max_tokens, tokens) {
@@ -105,12 +106,12 @@ pub extern "C" fn firthnapkin_tokens(
         }
         Ok(Written::Refused(count, found)) => {
             *tokens_length = count;
-            *fault = found;
+            *error = found;
             SYNTAX_ERROR
         }
         Ok(Written::Many(found)) => {
             *tokens_length = max_tokens as usize;
-            *fault = found;
+            *error = found;
             TOO_MANY_TOKENS
         }
         Err(unread) => unread.status(),

@@ -12,7 +12,7 @@ use Rattle.juniper_tokens.proofs.Public.{chars_within}
 use Rattle.juniper_values.specs.Scalar.{Content}
 use Rattle.firthnapkin_results.specs.Nodes.{byte_count, written_nodes}
 use Rattle.juniper_nodes.specs.NodeTexts.{text_of_node}
-use Rattle.firthnapkin_results.specs.declared.fault.Fault.{Fault}
+use Rattle.firthnapkin_results.specs.declared.error.Error.{Error}
 use Rattle.firthnapkin_results.specs.declared.flat.Parsed.{Parsed}
 use Rattle.firthnapkin_results.specs.declared.node.Node.{Node}
 use Rattle.firthnapkin_results.specs.declared.flat.Parsed.TheVariants as parsed
@@ -38,7 +38,7 @@ module _ {A : Type 0} (R : A → List Lexeme → Type 0) (nodes_of_it : A → Li
         omega (arith, short, ap length (encodes-chars source h.utf8)),
       )
 
-  module _ (Reads : List ℕ → Limits → A → Type 0) (IsRefused IsDeep : List ℕ → Limits → Fault → Type 0)
+  module _ (Reads : List ℕ → Limits → A → Type 0) (IsRefused IsDeep : List ℕ → Limits → Error → Type 0)
       (read : (source : List ℕ) (limits : Limits) (x : A) → Reads source limits x → IsRead R source x) where
     pub lengths_within : (source : List ℕ) (limits : Limits) (old_nodes new_nodes : List Node)
         (old_texts new_texts : List ℕ) (result : Result Parsed Unread)
@@ -47,9 +47,9 @@ module _ {A : Type 0} (R : A → List Lexeme → Type 0) (nodes_of_it : A → Li
     lengths_within source limits on nn ot nt (Ok (parsed.Tree lengths)) h =
         let within = within_read source h.1.0 (read source limits h.1.0 h.1.1) in
         (omega (arith, within.0, h.1.2.nodes_count), omega (arith, within.1, h.1.2.texts_count))
-    lengths_within source limits on nn ot nt (Ok (parsed.Refused fault)) h = tt
-    lengths_within source limits on nn ot nt (Ok (parsed.TooDeep fault)) h = tt
-    lengths_within source limits on nn ot nt (Ok (parsed.TooMany fault)) h = tt
+    lengths_within source limits on nn ot nt (Ok (parsed.Refused error)) h = tt
+    lengths_within source limits on nn ot nt (Ok (parsed.TooDeep error)) h = tt
+    lengths_within source limits on nn ot nt (Ok (parsed.TooMany error)) h = tt
     lengths_within source limits on nn ot nt (Err unread) h = tt
 
 pub within_source : (source : List ℕ) (limits : Limits) (tree : List (Definition Content))

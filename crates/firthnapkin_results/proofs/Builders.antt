@@ -17,7 +17,7 @@ use Rattle.firthnapkin_results.specs.ByteTables.{IsTableOf}
 use Rattle.firthnapkin_results.specs.Builders.{with_written, AddsText, KeepsBuffers, Adds, HasNoText, counted, field_nodes}
 use Rattle.firthnapkin_results.specs.Builders.{PutsNode}
 use Rattle.firthnapkin_results.specs.Fits.{NodeFits, NodesFit, SpanFits}
-use Rattle.firthnapkin_results.specs.Places.{written_place}
+use Rattle.firthnapkin_results.specs.Positions.{written_position}
 use Rattle.firthnapkin_results.specs.Nodes.{byte_count, kind_number, node_extent, written_node, written_nodes}
 use Rattle.firthnapkin_results.specs.declared.builder.NodeBuilder.{NodeBuilder}
 use Rattle.firthnapkin_results.specs.declared.node.Node.{Node as Stored}
@@ -129,8 +129,8 @@ module _ (kind : NodeKind) (span : places.Span) (label : Label) (none : HasNoTex
       ap (λ (v : Number). record {
         kind = kind_number kind;
         descendants = count;
-        start = written_place source span.start;
-        end = written_place source span.end;
+        start = written_position source span.start;
+        end = written_position source span.end;
         name_start = (node_extent source kind span label).start;
         name_end = (node_extent source kind span label).end;
         value = v.number;

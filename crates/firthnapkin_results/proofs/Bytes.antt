@@ -11,7 +11,7 @@ use Rattle.std.proofs.lemmas.Str.{chars-IsAscii, encodes-IsAscii, encodes-chars,
 use Rattle.juniper_tokens.specs.device.ByteRuns.{is_inner}
 use Rattle.juniper_tokens.proofs.Public.{wide, inner_low, inner_high, low_or_high}
 use Rattle.firthnapkin_results.specs.ByteTables.{starts_in}
-use Rattle.firthnapkin_results.specs.Places.{bytes_before}
+use Rattle.firthnapkin_results.specs.Positions.{bytes_before}
 
 -- of a text that is ASCII
 pub ascii_bytes : (bs : List ℕ) → IsAscii bs → (k : ℕ) → min k (length bs) ≡ bytes_before (chars bs) k

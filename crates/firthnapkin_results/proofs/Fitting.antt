@@ -27,45 +27,45 @@ use Rattle.juniper_documents.specs.Literals.{HasLiteralTooDeep, IsLiteralRefusal
 use Rattle.juniper_documents.specs.Within.{HasTooDeep}
 use Rattle.juniper_nodes.specs.NodeTexts.{text_of_node, node_texts}
 use Rattle.firthnapkin_results.specs.Nodes.{byte_count}
-use Rattle.firthnapkin_results.specs.Fits.{PlaceFits, SpanFits, NodesFit}
+use Rattle.firthnapkin_results.specs.Fits.{PositionFits, SpanFits, NodesFit}
 use Rattle.firthnapkin_results.specs.Answers.{HasDocument, scalars}
 use Rattle.firthnapkin_results.specs.declared.limits.Limits.{Limits}
 use Rattle.firthnapkin_results.proofs.ShortScalars.{short_texts}
 use Rattle.firthnapkin_results.proofs.Sources.{AreDefinitions, IsRead, document_read}
 use Rattle.firthnapkin_results.proofs.Written.{bytes-append}
 
--- ---- places
+-- ---- positions
 
 -- the position after a text
-pub position_fits : (text : List ℕ) → length text < 2 ^ 32 → PlaceFits (places.position_after text)
-position_fits text l =
+pub position_after_fits : (text : List ℕ) → length text < 2 ^ 32 → PositionFits (places.position_after text)
+position_after_fits text l =
     let pass : ℕ → Bool = λ (c : ℕ). not (is_line_feed c) in
     let lines = count_by-le-length is_line_feed text in
     let columns : length (take_while pass (reverse text)) ≤ length text =
     omega (arith, length-take (prefix_len pass (reverse text)) (reverse text), length-reverse text) in
     (l, omega (arith, lines, l), omega (arith, columns, l))
 
-any_place_fits : (source : List ℕ) (m : ℕ) → length source < 2 ^ 32 → PlaceFits (place source m)
-any_place_fits source m l = position_fits (take m source) (omega (arith, length-take m source, l))
+any_position_fits : (source : List ℕ) (m : ℕ) → length source < 2 ^ 32 → PositionFits (place source m)
+any_position_fits source m l = position_after_fits (take m source) (omega (arith, length-take m source, l))
 
-place_fits : (source : List ℕ) (p : places.Place) → length source < 2 ^ 32 → IsPlaceOf source p → PlaceFits p
-place_fits source p l h = subst PlaceFits (sym h.is) (any_place_fits source p.index l)
+position_fits : (source : List ℕ) (p : places.Place) → length source < 2 ^ 32 → IsPlaceOf source p → PositionFits p
+position_fits source p l h = subst PositionFits (sym h.is) (any_position_fits source p.index l)
 
 pub broken_fits : (source : List ℕ) (error : LexicalError) (at : places.Place) → length source < 2 ^ 32
-    → Breaks source error at → PlaceFits at
-broken_fits source error at l b = place_fits source at l (broken_lies source (breaks_by_places source error at b))
+    → Breaks source error at → PositionFits at
+broken_fits source error at l b = position_fits source at l (broken_lies source (breaks_by_places source error at b))
 
 pub span_fits : (source : List ℕ) (span : places.Span) → length source < 2 ^ 32 → LiesIn source span → SpanFits span
-span_fits source span l h = (place_fits source span.start l h.start, place_fits source span.end l h.end)
+span_fits source span l h = (position_fits source span.start l h.start, position_fits source span.end l h.end)
 
--- ---- faults
+-- ---- errors
 
 broken_span_lies : (source : List ℕ) (error : LexicalError) (at : places.Place) → Breaks source error at
     → LiesIn source (record { start = at; end = at })
 broken_span_lies source error at b =
     let lies = broken_lies source (breaks_by_places source error at b) in record { start = lies; end = lies }
 
-refusal_lies : (source : List ℕ) (fault : errors.Fault) → IsRefusal scalars source fault → LiesIn source fault.span
+refusal_lies : (source : List ℕ) (error : errors.Fault) → IsRefusal scalars source error → LiesIn source error.span
 refusal_lies source _ (lexical b) = broken_span_lies source _ _ b
 refusal_lies source _ (grammatical {ts} {before} {t} cut refused begins ends) =
     token_among source ts before refused.0.after t refused.0.whole (tokens_lie source ts cut)
@@ -79,8 +79,8 @@ module _ (text : List ℕ) (u : IsUtf8 text) (l : length text < 2 ^ 32) where
   pub few_characters : length (chars text) < 2 ^ 32
   few_characters = omega (arith, chars_within text u, l)
 
-  pub refusal_fits : (fault : errors.Fault) → IsRefusal scalars (chars text) fault → SpanFits fault.span
-  refusal_fits fault h = span_fits (chars text) fault.span few_characters (refusal_lies (chars text) fault h)
+  pub refusal_fits : (error : errors.Fault) → IsRefusal scalars (chars text) error → SpanFits error.span
+  refusal_fits error h = span_fits (chars text) error.span few_characters (refusal_lies (chars text) error h)
 
   pub deep_fits : (depth : ℕ) (span : places.Span) → HasTooDeep scalars depth (chars text) span → SpanFits span
   deep_fits depth span h = span_fits (chars text) span few_characters
@@ -89,16 +89,16 @@ module _ (text : List ℕ) (u : IsUtf8 text) (l : length text < 2 ^ 32) where
   -- ---- of a source that is to be a literal
 
   module _ {A : Type 0} (R : A → List Lexeme → Type 0) where
-    literal_lies : (Names : List Lexeme → Lexeme → errors.Error → Type 0) (fault : errors.Fault)
-        → IsLiteralRefusal R Names (chars text) fault → LiesIn (chars text) fault.span
+    literal_lies : (Names : List Lexeme → Lexeme → errors.Error → Type 0) (error : errors.Fault)
+        → IsLiteralRefusal R Names (chars text) error → LiesIn (chars text) error.span
     literal_lies Names _ (literals.lexical b) = broken_span_lies (chars text) _ _ b
     literal_lies Names _ (literals.grammatical {ts} {before} {t} cut refused named) =
         token_among (chars text) ts before refused.after t refused.whole (tokens_lie (chars text) ts cut)
 
-    pub literal_refusal_fits : (Names : List Lexeme → Lexeme → errors.Error → Type 0) (fault : errors.Fault)
-        → IsLiteralRefusal R Names (chars text) fault → SpanFits fault.span
-    literal_refusal_fits Names fault h =
-        span_fits (chars text) fault.span few_characters (literal_lies Names fault h)
+    pub literal_refusal_fits : (Names : List Lexeme → Lexeme → errors.Error → Type 0) (error : errors.Fault)
+        → IsLiteralRefusal R Names (chars text) error → SpanFits error.span
+    literal_refusal_fits Names error h =
+        span_fits (chars text) error.span few_characters (literal_lies Names error h)
 
     pub deep_literal_fits : (depth : ℕ) (span : places.Span) → HasLiteralTooDeep R depth (chars text) span
         → SpanFits span

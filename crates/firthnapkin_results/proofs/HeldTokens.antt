@@ -14,7 +14,7 @@ use Rattle.juniper_tokens.proofs.Public.{chars_within}
 use Rattle.firthnapkin_results.specs.Answers.{Fills}
 use Rattle.firthnapkin_results.specs.CutTokens.{ReturnsTokens}
 use Rattle.juniper_tokens.specs.Counting.{HasMore}
-use Rattle.firthnapkin_results.specs.Tokens.{written_token, written_tokens, HasTokens, HasFaultAfter}
+use Rattle.firthnapkin_results.specs.Tokens.{written_token, written_tokens, HasTokens, HasErrorAfter}
 use Rattle.firthnapkin_results.specs.declared.source.Unread.{Unread}
 use Rattle.firthnapkin_results.specs.declared.source.Unread.TheVariants as unread
 use Rattle.firthnapkin_results.specs.declared.token.Token.{Token}
@@ -157,7 +157,7 @@ module _ (source : List ℕ) where
       (leads_from_text [] (chars source) done after before l) in
       omega (arith, z.0, z.1, chars_within source u)
 
-  pub few_before : (before : List Lexeme) (error : LexicalError) (at : Place) → HasFaultAfter source before error at
+  pub few_before : (before : List Lexeme) (error : LexicalError) (at : Place) → HasErrorAfter source before error at
       → length before ≤ length source
   few_before before error at h = few_leading before h.done h.after h.utf8 h.leads
 
@@ -165,9 +165,9 @@ module _ (source : List ℕ) where
       → most ≤ length source
   few_in_limit most span u h = omega (arith, h.count, few_leading h.front h.done h.rest u h.leads)
 
--- ---- faults
+-- ---- errors
 
-pub fault_after : (source : List ℕ) (before : List Lexeme) (error : LexicalError) (at : Place)
-    → HasFaultAfter source before error at → Breaks (chars source) error at
-fault_after source before error at h = breaks_lead [] (chars source) h.done h.after before error at h.leads
+pub error_after : (source : List ℕ) (before : List Lexeme) (error : LexicalError) (at : Place)
+    → HasErrorAfter source before error at → Breaks (chars source) error at
+error_after source before error at h = breaks_lead [] (chars source) h.done h.after before error at h.leads
     (here h.breaks)

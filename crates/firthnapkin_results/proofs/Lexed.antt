@@ -18,10 +18,10 @@ module _ (s t : LexerState) (item : Result (Spanning Token) LexFailure) (given :
   pub given_token : (token : Spanning Token) → item ≡ Ok token → GivesToken s token t
   given_token token is = subst (λ z. GivesItem s z t) is given
 
-  pub given_fault : (fault : Spanning LexerError) (failure : LexFailure) → item ≡ Err failure → failure ≡ Fault fault
-      → MeetsError s (view_lexer_error fault.item) fault.span.start
-  given_fault fault failure is are =
-      let at_fault = subst (λ f. GivesItem s (Err f) t) are (subst (λ z. GivesItem s z t) is given) in at_fault.breaks
+  pub given_error : (error : Spanning LexerError) (failure : LexFailure) → item ≡ Err failure → failure ≡ Fault error
+      → MeetsError s (view_lexer_error error.item) error.span.start
+  given_error error failure is are =
+      let at_error = subst (λ f. GivesItem s (Err f) t) are (subst (λ z. GivesItem s z t) is given) in at_error.breaks
 
 -- it goes on after a token that isn't the end
 pub goes_on : (s t : LexerState) (token : Spanning Token) → GivesToken s token t

@@ -7,8 +7,8 @@ pub mod Bounds
 pub mod Writing
 pub mod Builders
 pub mod Buildings
-pub mod OperationNumbers
-pub mod WeighedBounds
+pub mod OperationComplexities
+pub mod MeasuredBounds
 pub mod SpreadSpans
 pub mod Flats
 pub mod Fitting

@@ -18,43 +18,43 @@ use Rattle.graphql_lexical.specs.declared.kind.Kind.TheVariants.{EndOfFile, Stri
 use Rattle.graphql_grammar.specs.Faults.{Begins, NamedError, TypeError, end as ends_here, own, other}
 use Rattle.graphql_grammar.specs.Grammar.{IsLocated, IsScalarKind, IsValue}
 use Rattle.juniper_tokens.specs.Errors as errors
-use Rattle.juniper_tokens.specs.Errors.{Error, error_text}
+use Rattle.juniper_tokens.specs.Errors.{error_text}
 use Rattle.juniper_documents.specs.Literals as literals
 use Rattle.juniper_documents.specs.Literals.{BeginsAlone}
 use Rattle.juniper_parser.specs.Promise.{lexical_fault, lexical, grammatical, unexpected}
 use Rattle.juniper_values.specs.Default.{default_reading, string_reading}
 use Rattle.juniper_values.specs.Scalar.{Reading}
 use Rattle.firthnapkin_results.specs.Answers.{scalars as all_scalars}
-use Rattle.firthnapkin_results.specs.Faults.{written_fault, lexical_reason, error_reason}
+use Rattle.firthnapkin_results.specs.Errors.{written_error, lexical_reason, error_reason}
 use Rattle.firthnapkin_results.specs.Messages.{ShowsText, shown_bytes, IsOfGrammar, AreWords, IsNoErrorOf, IsRefused}
 use Rattle.firthnapkin_results.specs.Messages.{as_document, as_type, as_value}
 use Rattle.firthnapkin_results.specs.Messages.{refused as is_refused, too_deep as is_deep, too_many as is_many}
 use Rattle.firthnapkin_results.specs.Messages.{unknown as is_unknown, cycle as is_cycle}
 use Rattle.firthnapkin_results.specs.Scalars.{scalar_reading, int_reading}
-use Rattle.firthnapkin_results.specs.declared.fault.Fault.{Fault}
+use Rattle.firthnapkin_results.specs.declared.error.Error.{Error}
 use Rattle.firthnapkin_results.proofs.Shown.{TokenStands, token_in_source, escape_in_source, bytes_between, bytes_within, middle_scalars, middle_utf8, scalars_back}
 
 -- ---- a scalar that is refused
 
-err_of : Error → Reading → Error
+err_of : errors.Error → Reading → errors.Error
 err_of d (Ok c) = d
 err_of d (Err e) = e
 
-same_err : (e f : Error) → ◌≡◌ {A = Reading} (Err e) (Err f) → e ≡ f
+same_err : (e f : errors.Error) → ◌≡◌ {A = Reading} (Err e) (Err f) → e ≡ f
 unfolding err_of
 same_err e f h = ap (err_of e) h
 
-by_unescape : (t : Text) (o : Option Text) (e : Error) → string_reading t o ≡ Err e
+by_unescape : (t : Text) (o : Option Text) (e : errors.Error) → string_reading t o ≡ Err e
     → e ≡ errors.UnexpectedToken (shown String t)
 by_unescape t None e h = sym (same_err (errors.UnexpectedToken (shown String t)) e h)
 by_unescape t (Some u) e h = absurd (cc h)
 
-int_is_read : (r : Reading) (e : Error) → int_reading r ≡ Err e → ⊥
+int_is_read : (r : Reading) (e : errors.Error) → int_reading r ≡ Err e → ⊥
 int_is_read (Ok c) e h = cc h
 int_is_read (Err f) e h = cc h
 
 -- a String alone is refused, as an unexpected token
-own_error : (k : Kind) (t : Text) (e : Error) → IsScalarKind k → scalar_reading k t ≡ Err e
+own_error : (k : Kind) (t : Text) (e : errors.Error) → IsScalarKind k → scalar_reading k t ≡ Err e
     → e ≡ errors.UnexpectedToken (shown k t)
 own_error k t e (inl s) h =
     by_unescape t _ e (ap (λ k. scalar_reading k t) (sym s) ∙ h) ∙ ap (λ k. errors.UnexpectedToken (shown k t)) (sym s)
@@ -77,22 +77,22 @@ pub data IsTold (source : Text) : errors.Fault → Type 0 where
   by_token : (t : Lexeme) → TokenStands source t → t.kind ≢ EndOfFile
       → IsTold source (record { error = errors.UnexpectedToken (shown t.kind t.text); span = t.span })
 
-named : (Begun : List Lexeme → Type 0) (source : Text) (before : List Lexeme) (t : Lexeme) (e : Error)
+named : (Begun : List Lexeme → Type 0) (source : Text) (before : List Lexeme) (t : Lexeme) (e : errors.Error)
     → TokenStands source t
     → NamedError Begun errors.UnexpectedEndOfFile unexpected all_scalars before t e
     → IsTold source (record { error = e; span = t.span })
 named Begun source before t _ s (ends_here h) = by_end
 named Begun source before t e s (own k r m) =
-    subst (λ (d : Error). IsTold source (record { error = d; span = t.span })) (sym (own_error t.kind t.text e k r))
-    (by_token t s (scalar_no_end t.kind k))
+    subst (λ (d : errors.Error). IsTold source (record { error = d; span = t.span }))
+    (sym (own_error t.kind t.text e k r)) (by_token t s (scalar_no_end t.kind k))
 named Begun source before t _ s (other n m) = by_token t s n
 
-typed : (source : Text) (t : Lexeme) (e : Error) → TokenStands source t
+typed : (source : Text) (t : Lexeme) (e : errors.Error) → TokenStands source t
     → TypeError errors.UnexpectedEndOfFile unexpected t e → IsTold source (record { error = e; span = t.span })
 typed source t e s (inl (k, h)) =
-    subst (λ (d : Error). IsTold source (record { error = d; span = t.span })) (sym h) by_end
+    subst (λ (d : errors.Error). IsTold source (record { error = d; span = t.span })) (sym h) by_end
 typed source t e s (inr (n, h)) =
-    subst (λ (d : Error). IsTold source (record { error = d; span = t.span })) (sym h) (by_token t s n)
+    subst (λ (d : errors.Error). IsTold source (record { error = d; span = t.span })) (sym h) (by_token t s n)
 
 pub refusal_told : (source : Text) (found : errors.Fault) → IsRefused source found → IsTold source found
 refusal_told source _ (as_document (lexical b)) = by_lexical b
@@ -118,77 +118,77 @@ lexical_kind (UnknownEscapeSequence t) = refl
 lexical_kind UnexpectedEndOfFile = refl
 lexical_kind InvalidNumber = refl
 
-kind_of : (source : Text) (fault : Fault) (found : errors.Fault) → fault ≡ written_fault source found
-    → fault.kind ≡ (error_reason found.error).kind
-kind_of source fault found e = ap (λ (f : Fault). f.kind) e
+kind_of : (source : Text) (error : Error) (found : errors.Fault) → error ≡ written_error source found
+    → error.kind ≡ (error_reason found.error).kind
+kind_of source error found e = ap (λ (f : Error). f.kind) e
 
 -- an unexpected token
-pub record TellsToken (source : Text) (fault : Fault) (error : Error) : Type 0 where
+pub record TellsToken (source : Text) (error : Error) (why : errors.Error) : Type 0 where
   pub token : Lexeme
   pub stands : TokenStands source token
   pub other : token.kind ≢ EndOfFile
-  pub is : error ≡ errors.UnexpectedToken (shown token.kind token.text)
-  pub fault_is : fault ≡ written_fault source
+  pub is : why ≡ errors.UnexpectedToken (shown token.kind token.text)
+  pub error_is : error ≡ written_error source
       (record { error = errors.UnexpectedToken (shown token.kind token.text); span = token.span })
 
-pub tells_token : (source : Text) (fault : Fault) (found : errors.Fault) → IsTold source found
-    → fault ≡ written_fault source found → fault.kind ≡ 0 → TellsToken source fault found.error
-tells_token source fault _ (by_lexical {e} {at} b) f k =
-    absurd (omega (arith, k, kind_of source fault (lexical_fault e at) f, lexical_kind e))
-tells_token source fault _ (by_end {span}) f k =
-    absurd (omega (arith, k, kind_of source fault (record { error = errors.UnexpectedEndOfFile; span = span }) f))
-tells_token source fault _ (by_token t s n) f k = record { token = t; stands = s; other = n; is = refl; fault_is = f }
+pub tells_token : (source : Text) (error : Error) (found : errors.Fault) → IsTold source found
+    → error ≡ written_error source found → error.kind ≡ 0 → TellsToken source error found.error
+tells_token source error _ (by_lexical {e} {at} b) f k =
+    absurd (omega (arith, k, kind_of source error (lexical_fault e at) f, lexical_kind e))
+tells_token source error _ (by_end {span}) f k =
+    absurd (omega (arith, k, kind_of source error (record { error = errors.UnexpectedEndOfFile; span = span }) f))
+tells_token source error _ (by_token t s n) f k = record { token = t; stands = s; other = n; is = refl; error_is = f }
 
 -- a lexical error
-pub record TellsLexical (source : Text) (fault : Fault) (error : Error) : Type 0 where
+pub record TellsLexical (source : Text) (error : Error) (why : errors.Error) : Type 0 where
   pub lexical_error : LexicalError
   pub at : Place
   pub breaks : Breaks source lexical_error at
-  pub is : error ≡ errors.Lexical lexical_error
-  pub fault_is : fault ≡ written_fault source (lexical_fault lexical_error at)
+  pub is : why ≡ errors.Lexical lexical_error
+  pub error_is : error ≡ written_error source (lexical_fault lexical_error at)
 
-pub tells_lexical : (source : Text) (fault : Fault) (found : errors.Fault) → IsTold source found
-    → fault ≡ written_fault source found → fault.kind ≡ 2 → TellsLexical source fault found.error
-tells_lexical source fault _ (by_lexical {e} {at} b) f k =
-    record { lexical_error = e; at = at; breaks = b; is = refl; fault_is = f }
-tells_lexical source fault _ (by_end {span}) f k =
-    absurd (omega (arith, k, kind_of source fault (record { error = errors.UnexpectedEndOfFile; span = span }) f))
-tells_lexical source fault _ (by_token t s n) f k =
+pub tells_lexical : (source : Text) (error : Error) (found : errors.Fault) → IsTold source found
+    → error ≡ written_error source found → error.kind ≡ 2 → TellsLexical source error found.error
+tells_lexical source error _ (by_lexical {e} {at} b) f k =
+    record { lexical_error = e; at = at; breaks = b; is = refl; error_is = f }
+tells_lexical source error _ (by_end {span}) f k =
+    absurd (omega (arith, k, kind_of source error (record { error = errors.UnexpectedEndOfFile; span = span }) f))
+tells_lexical source error _ (by_token t s n) f k =
     absurd (omega (
       arith,
       k,
-      kind_of source fault
+      kind_of source error
           (record { error = errors.UnexpectedToken (shown t.kind t.text); span = t.span }) f,
     ))
 
 -- there is no other
-pub tells_some : (source : Text) (fault : Fault) (found : errors.Fault) → IsTold source found
-    → fault ≡ written_fault source found → fault.kind ≤ 2
-tells_some source fault _ (by_lexical {e} {at} b) f =
-    omega (arith, kind_of source fault (lexical_fault e at) f, lexical_kind e)
-tells_some source fault _ (by_end {span}) f =
-    omega (arith, kind_of source fault (record { error = errors.UnexpectedEndOfFile; span = span }) f)
-tells_some source fault _ (by_token t s n) f =
+pub tells_some : (source : Text) (error : Error) (found : errors.Fault) → IsTold source found
+    → error ≡ written_error source found → error.kind ≤ 2
+tells_some source error _ (by_lexical {e} {at} b) f =
+    omega (arith, kind_of source error (lexical_fault e at) f, lexical_kind e)
+tells_some source error _ (by_end {span}) f =
+    omega (arith, kind_of source error (record { error = errors.UnexpectedEndOfFile; span = span }) f)
+tells_some source error _ (by_token t s n) f =
     omega (
       arith,
-      kind_of source fault (record { error = errors.UnexpectedToken (shown t.kind t.text); span = t.span })
+      kind_of source error (record { error = errors.UnexpectedToken (shown t.kind t.text); span = t.span })
           f,
     )
 
 -- ---- the text that it shows
 
 -- the bytes that the error shows are those of this text
-pub record Shows (source : List ℕ) (fault : Fault) (text : Text) : Type 0 where
-  pub bytes : shown_bytes source fault ≡ encode_utf8_all text
-  pub is_text : ShowsText source fault
+pub record Shows (source : List ℕ) (error : Error) (text : Text) : Type 0 where
+  pub bytes : shown_bytes source error ≡ encode_utf8_all text
+  pub is_text : ShowsText source error
   pub characters : scalars text ≡ true
 
-shows : (source : List ℕ) → IsUtf8 source → (fault : Fault) (front middle rest : Text) (start end : ℕ)
-    → fault.text_start ≡ length (encode_utf8_all (take start (chars source)))
-    → fault.text_end ≡ length (encode_utf8_all (take end (chars source)))
+shows : (source : List ℕ) → IsUtf8 source → (error : Error) (front middle rest : Text) (start end : ℕ)
+    → error.text_start ≡ length (encode_utf8_all (take start (chars source)))
+    → error.text_end ≡ length (encode_utf8_all (take end (chars source)))
     → chars source ≡ front ++ (middle ++ rest) → start ≡ length front → end ≡ length (front ++ middle)
-    → Shows source fault middle
-shows source u fault front middle rest start end f g e s t =
+    → Shows source error middle
+shows source u error front middle rest start end f g e s t =
     let bytes = ap₂ (λ (a b : ℕ). take (b - a) (drop a source)) f g
     ∙ bytes_between source u front middle rest start end e s t in
     let within = bytes_within source u front middle rest start end e s t in
@@ -201,28 +201,28 @@ shows source u fault front middle rest start end f g e s t =
       characters = middle_scalars source u front middle rest e;
     }
 
-pub token_shown : (source : List ℕ) → IsUtf8 source → (fault : Fault) (error : Error)
-    → (h : TellsToken (chars source) fault error) → Shows source fault h.stands.1
-token_shown source u fault error h =
-    shows source u fault h.stands.0 h.stands.1 h.stands.2 _ _ (ap (λ (f : Fault). f.text_start) h.fault_is)
-    (ap (λ (f : Fault). f.text_end) h.fault_is) h.stands.3 h.stands.4 h.stands.5
+pub token_shown : (source : List ℕ) → IsUtf8 source → (error : Error) (why : errors.Error)
+    → (h : TellsToken (chars source) error why) → Shows source error h.stands.1
+token_shown source u error why h =
+    shows source u error h.stands.0 h.stands.1 h.stands.2 _ _ (ap (λ (f : Error). f.text_start) h.error_is)
+    (ap (λ (f : Error). f.text_end) h.error_is) h.stands.3 h.stands.4 h.stands.5
 
 -- the text of a token
-pub token_characters : (source : List ℕ) (fault : Fault) (written : List ℕ) (whole : Text) → Shows source fault whole
-    → written ≡ shown_bytes source fault → chars written ≡ whole
-token_characters source fault written whole h e =
+pub token_characters : (source : List ℕ) (error : Error) (written : List ℕ) (whole : Text) → Shows source error whole
+    → written ≡ shown_bytes source error → chars written ≡ whole
+token_characters source error written whole h e =
     ap chars (e ∙ h.bytes) ∙ chars-encodes whole h.characters
 
 -- ---- an escape
 
-pub escape_shown : (source : List ℕ) → IsUtf8 source → (fault : Fault) (escape : Text) (at : Place)
+pub escape_shown : (source : List ℕ) → IsUtf8 source → (error : Error) (escape : Text) (at : Place)
     → Breaks (chars source) (UnknownEscapeSequence escape) at
-    → fault ≡ written_fault (chars source) (lexical_fault (UnknownEscapeSequence escape) at)
-    → Shows source fault escape
-escape_shown source u fault escape at b f =
+    → error ≡ written_error (chars source) (lexical_fault (UnknownEscapeSequence escape) at)
+    → Shows source error escape
+escape_shown source u error escape at b f =
     let (front, rest, e, s) = escape_in_source (chars source) escape at b in
-    shows source u fault front escape rest _ _ (ap (λ (f : Fault). f.text_start) f)
-    (ap (λ (f : Fault). f.text_end) f) e (omega (arith, s)) (omega (arith, s, length-append front escape))
+    shows source u error front escape rest _ _ (ap (λ (f : Error). f.text_start) f)
+    (ap (λ (f : Error). f.text_end) f) e (omega (arith, s)) (omega (arith, s, length-append front escape))
 
 -- ---- the character of a lexical error
 
@@ -318,39 +318,39 @@ detail_5 (UnknownEscapeSequence t) h = (t, refl)
 detail_5 UnexpectedEndOfFile h = absurd (omega (arith, h))
 detail_5 InvalidNumber h = absurd (omega (arith, h))
 
-module _ (source : List ℕ) (u : IsUtf8 source) (fault : Fault) (e : LexicalError) (at : Place)
-    (b : Breaks (chars source) e at) (f : fault ≡ written_fault (chars source) (lexical_fault e at)) where
-  character_is : (lexical_reason e).character ≡ fault.character
-  character_is = sym (ap (λ (f : Fault). f.character) f)
+module _ (source : List ℕ) (u : IsUtf8 source) (error : Error) (e : LexicalError) (at : Place)
+    (b : Breaks (chars source) e at) (f : error ≡ written_error (chars source) (lexical_fault e at)) where
+  character_is : (lexical_reason e).character ≡ error.character
+  character_is = sym (ap (λ (f : Error). f.character) f)
 
-  detail_is : fault.detail ≡ (lexical_reason e).detail
-  detail_is = ap (λ (f : Fault). f.detail) f
+  detail_is : error.detail ≡ (lexical_reason e).detail
+  detail_is = ap (λ (f : Error). f.detail) f
 
   scalar_as : (d : LexicalError) → e ≡ d → OfCharacter d IsScalar
   scalar_as d is = subst (λ (d : LexicalError). OfCharacter d IsScalar) is (error_scalar source u e at b)
 
-  pub unknown_named : fault.detail ≡ 1 → (e ≡ UnknownCharacter fault.character) × IsScalar fault.character
+  pub unknown_named : error.detail ≡ 1 → (e ≡ UnknownCharacter error.character) × IsScalar error.character
   unknown_named d =
       let is = detail_1 e (sym detail_is ∙ d) ∙ ap UnknownCharacter character_is in
-      (is, scalar_as (UnknownCharacter fault.character) is)
+      (is, scalar_as (UnknownCharacter error.character) is)
 
-  pub unexpected_named : fault.detail ≡ 2 → (e ≡ UnexpectedCharacter fault.character) × IsScalar fault.character
+  pub unexpected_named : error.detail ≡ 2 → (e ≡ UnexpectedCharacter error.character) × IsScalar error.character
   unexpected_named d =
       let is = detail_2 e (sym detail_is ∙ d) ∙ ap UnexpectedCharacter character_is in
-      (is, scalar_as (UnexpectedCharacter fault.character) is)
+      (is, scalar_as (UnexpectedCharacter error.character) is)
 
-  pub in_string_named : fault.detail ≡ 4 → (e ≡ UnknownCharacterInString fault.character) × IsScalar fault.character
+  pub in_string_named : error.detail ≡ 4 → (e ≡ UnknownCharacterInString error.character) × IsScalar error.character
   in_string_named d =
       let is = detail_4 e (sym detail_is ∙ d) ∙ ap UnknownCharacterInString character_is in
-      (is, scalar_as (UnknownCharacterInString fault.character) is)
+      (is, scalar_as (UnknownCharacterInString error.character) is)
 
-  pub escape_named : fault.detail ≡ 5 → (t : Text) × (e ≡ UnknownEscapeSequence t) × Shows source fault t
+  pub escape_named : error.detail ≡ 5 → (t : Text) × (e ≡ UnknownEscapeSequence t) × Shows source error t
   escape_named d =
       let (t, is) = detail_5 e (sym detail_is ∙ d) in (
         t,
         is,
-        escape_shown source u fault t at (subst (λ (d : LexicalError). Breaks (chars source) d at) is b)
-            (f ∙ ap (λ (d : LexicalError). written_fault (chars source) (lexical_fault d at)) is),
+        escape_shown source u error t at (subst (λ (d : LexicalError). Breaks (chars source) d at) is b)
+            (f ∙ ap (λ (d : LexicalError). written_error (chars source) (lexical_fault d at)) is),
       )
 
 -- ---- options
@@ -381,40 +381,40 @@ lexical_words UnexpectedEndOfFile = some_front (codes "Unexpected end of input")
 lexical_words InvalidNumber = some_front (codes "Invalid number literal") [] (omega arith)
 
 -- an error has some words
-pub some_words : (e : Error) → IsOfGrammar e → 0 < length (encode_utf8_all (error_text e))
+pub some_words : (e : errors.Error) → IsOfGrammar e → 0 < length (encode_utf8_all (error_text e))
 some_words (errors.UnexpectedToken t) h = some_front (codes "Unexpected ") (quoted t) (omega arith)
 some_words errors.UnexpectedEndOfFile h = some_front (codes "Unexpected end of input") [] (omega arith)
 some_words (errors.Lexical e) h = lexical_words e
 some_words (errors.ExpectedScalar t) h = absurd h
 
--- What the error of a refusal says are the words of a fault of no limit and no spread.
-pub are_words : (source : List ℕ) (fault : Fault) (e : Error) → fault.kind ≢ 3 → fault.kind ≢ 4 → fault.kind ≢ 6
-    → fault.kind ≢ 7
-    → ((found : errors.Fault) → IsRefused (chars source) found → fault ≡ written_fault (chars source) found
+-- What the error of a refusal says are the words of an error of no limit and no spread.
+pub are_words : (source : List ℕ) (error : Error) (e : errors.Error) → error.kind ≢ 3 → error.kind ≢ 4 → error.kind ≢ 6
+    → error.kind ≢ 7
+    → ((found : errors.Fault) → IsRefused (chars source) found → error ≡ written_error (chars source) found
     → e ≡ found.error)
-    → AreWords source fault (encode_utf8_all (error_text e))
-are_words source fault e deep many no_fragment in_itself exact _ (is_refused r f) =
-    ap (λ (x : Error). encode_utf8_all (error_text x)) (exact _ r f)
-are_words source fault e deep many no_fragment in_itself exact _ (is_deep f) =
-    absurd (deep (ap (λ (x : Fault). x.kind) f))
-are_words source fault e deep many no_fragment in_itself exact _ (is_many f) =
-    absurd (many (ap (λ (x : Fault). x.kind) f))
-are_words source fault e deep many no_fragment in_itself exact _ (is_unknown f) =
-    absurd (no_fragment (ap (λ (x : Fault). x.kind) f))
-are_words source fault e deep many no_fragment in_itself exact _ (is_cycle f) =
-    absurd (in_itself (ap (λ (x : Fault). x.kind) f))
+    → AreWords source error (encode_utf8_all (error_text e))
+are_words source error e deep many no_fragment in_itself exact _ (is_refused r f) =
+    ap (λ (x : errors.Error). encode_utf8_all (error_text x)) (exact _ r f)
+are_words source error e deep many no_fragment in_itself exact _ (is_deep f) =
+    absurd (deep (ap (λ (x : Error). x.kind) f))
+are_words source error e deep many no_fragment in_itself exact _ (is_many f) =
+    absurd (many (ap (λ (x : Error). x.kind) f))
+are_words source error e deep many no_fragment in_itself exact _ (is_unknown f) =
+    absurd (no_fragment (ap (λ (x : Error). x.kind) f))
+are_words source error e deep many no_fragment in_itself exact _ (is_cycle f) =
+    absurd (in_itself (ap (λ (x : Error). x.kind) f))
 
 -- It is no error of the source if no refusal gives it, and it is one of no limit and no spread.
-pub is_no_error : (source : List ℕ) (fault : Fault) → fault.kind ≢ 3 → fault.kind ≢ 4 → fault.kind ≢ 6
-    → fault.kind ≢ 7
-    → ((found : errors.Fault) → IsRefused (chars source) found → fault ≡ written_fault (chars source) found → ⊥)
-    → IsNoErrorOf source fault
-is_no_error source fault deep many no_fragment in_itself none _ (is_refused r f) = none _ r f
-is_no_error source fault deep many no_fragment in_itself none _ (is_deep f) =
-    deep (ap (λ (x : Fault). x.kind) f)
-is_no_error source fault deep many no_fragment in_itself none _ (is_many f) =
-    many (ap (λ (x : Fault). x.kind) f)
-is_no_error source fault deep many no_fragment in_itself none _ (is_unknown f) =
-    no_fragment (ap (λ (x : Fault). x.kind) f)
-is_no_error source fault deep many no_fragment in_itself none _ (is_cycle f) =
-    in_itself (ap (λ (x : Fault). x.kind) f)
+pub is_no_error : (source : List ℕ) (error : Error) → error.kind ≢ 3 → error.kind ≢ 4 → error.kind ≢ 6
+    → error.kind ≢ 7
+    → ((found : errors.Fault) → IsRefused (chars source) found → error ≡ written_error (chars source) found → ⊥)
+    → IsNoErrorOf source error
+is_no_error source error deep many no_fragment in_itself none _ (is_refused r f) = none _ r f
+is_no_error source error deep many no_fragment in_itself none _ (is_deep f) =
+    deep (ap (λ (x : Error). x.kind) f)
+is_no_error source error deep many no_fragment in_itself none _ (is_many f) =
+    many (ap (λ (x : Error). x.kind) f)
+is_no_error source error deep many no_fragment in_itself none _ (is_unknown f) =
+    no_fragment (ap (λ (x : Error). x.kind) f)
+is_no_error source error deep many no_fragment in_itself none _ (is_cycle f) =
+    in_itself (ap (λ (x : Error). x.kind) f)

@@ -32,7 +32,7 @@ ends_in_escape : (front after escape : Text) → Fails front after (UnknownEscap
     → EndsInEscape front after escape
 ends_in_escape _ _ escape (string_fails {units} {before} {after} l h) = in_string units before after escape h
 
--- The escape stands in the source from the character before the error's place on.
+-- The escape stands in the source from the character before the error's position on.
 abbrev pub EscapeStands : Text → Text → Place → Type 0
 EscapeStands source escape at = (front rest : Text) × (source ≡ front ++ (escape ++ rest))
     × (at.index ≡ suc (length front))

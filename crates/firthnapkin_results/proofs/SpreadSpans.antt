@@ -77,22 +77,22 @@ document_spreads at (p ∷ ds) h (suc i) d e =
     document_spreads (at + byte_count (node_texts (definition_nodes p))) ds
     (fits-append at (definition_nodes p) (each definition_nodes ds) h).1 i d e
 
-abbrev pub FaultFits : SpreadFault → Type 0
-FaultFits (OfCycle span) = SpanFits span
-FaultFits (OfUnknown span) = SpanFits span
+abbrev pub ErrorFits : SpreadFault → Type 0
+ErrorFits (OfCycle span) = SpanFits span
+ErrorFits (OfUnknown span) = SpanFits span
 
 module _ (tree : List (Definition Content))
     (fit : (i : ℕ) (d : Definition Content) → slice_get tree i ≡ Some d → AllFit (spreads_of_definition d)) where
-  fault_fits : {inside : List ℕ} {rs : List Reference} {f : SpreadFault} → CannotExpand tree inside rs f → AllFit rs
-      → FaultFits f
-  fault_fits (of_none e) h = h.0
-  fault_fits (of_outer t e among) h = h.0
-  fault_fits (in_fragment t d e out stands k) h = fault_fits k (fit t d stands)
-  fault_fits (in_others t d b e stands has k) h = fault_fits k h.1
+  error_fits : {inside : List ℕ} {rs : List Reference} {f : SpreadFault} → CannotExpand tree inside rs f → AllFit rs
+      → ErrorFits f
+  error_fits (of_none e) h = h.0
+  error_fits (of_outer t e among) h = h.0
+  error_fits (in_fragment t d e out stands k) h = error_fits k (fit t d stands)
+  error_fits (in_others t d b e stands has k) h = error_fits k h.1
 
 pub first_fits : (tree : List (Definition Content)) (at : ℕ) (f : SpreadFault) → NodesFit 0 (document_nodes tree)
-    → FirstFault tree at f → FaultFits f
+    → FirstFault tree at f → ErrorFits f
 unfolding document_nodes
 first_fits tree at f h first =
     let fit = document_spreads 0 tree h in
-    fault_fits tree fit first.fault (fit at first.operation first.stands)
+    error_fits tree fit first.fault (fit at first.operation first.stands)

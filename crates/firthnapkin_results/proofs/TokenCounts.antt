@@ -7,8 +7,8 @@ use Rattle.graphql_lexical.specs.Characters.{Text}
 use Rattle.graphql_lexical.specs.Cutting.{Lexeme, Stands}
 use Rattle.graphql_lexical.proofs.Public.{done_whole, leads_whole}
 use Rattle.juniper_tokens.specs.Counting.{HasMore}
-use Rattle.firthnapkin_results.specs.Fits.{PlaceFits, SpanFits}
-use Rattle.firthnapkin_results.proofs.Fitting.{few_characters, position_fits}
+use Rattle.firthnapkin_results.specs.Fits.{PositionFits, SpanFits}
+use Rattle.firthnapkin_results.proofs.Fitting.{few_characters, position_after_fits}
 
 -- the numbers of a token
 pub token_fits : (before left : Text) (x : Lexeme) (done after : Text) → Stands before left x done after → (span : Span)
@@ -25,8 +25,8 @@ token_fits before left x done after s span at l =
       length-append s.ignored s.whole,
     ) in
     subst SpanFits (sym at) (
-      subst PlaceFits (sym s.start) (position_fits (before ++ s.ignored) start),
-      subst PlaceFits (sym s.end) (position_fits done end),
+      subst PositionFits (sym s.start) (position_after_fits (before ++ s.ignored) start),
+      subst PositionFits (sym s.end) (position_after_fits done end),
     )
 
 -- those of the first token too many

@@ -1,4 +1,4 @@
--- The bytes of a token's text are found between its places.
+-- The bytes of a token's text are found between its positions.
 use Rattle.std.proofs.Common.{◌≡◌, ◌∙◌, ℕ, ◌+◌, ◌-◌, ◌*◌, ◌≤◌, List, [], ◌∷◌, ◌++◌, length, take, drop, refl, sym, ap, ap₂, subst, arith, append_assoc, append-nil, length-append, length-drop, take-append-drop, take-add}
 use Rattle.std.specs.Prelude.{encode_utf8_all}
 use Rattle.std.specs.Str.{chars, IsUtf8}
@@ -11,7 +11,7 @@ use Rattle.graphql_lexical.specs.Tokens.{mark, quotes, around}
 use Rattle.graphql_lexical.specs.Cutting.{Lexeme, Stands}
 use Rattle.graphql_lexical.specs.device.Indexed.{StandsAt}
 use Rattle.graphql_lexical.proofs.Public.{front_read, place_index, stands_from_text}
-use Rattle.firthnapkin_results.specs.Places.{bytes_before}
+use Rattle.firthnapkin_results.specs.Positions.{bytes_before}
 use Rattle.firthnapkin_results.specs.Tokens.{TellsText}
 
 one_quote : encode_utf8_all (34 ∷ []) ≡ 34 ∷ []
@@ -52,7 +52,7 @@ middle front marks text rest from size e f =
     ap₂ (λ i j. take i (drop j (front ++ whole))) f e
     ∙ (ap (take (length text)) after_front ∙ take-append_seam text (marks ++ rest))
 
--- the places of a token that stands in a source
+-- the positions of a token that stands in a source
 module _ (source : List ℕ) (k : ℕ) (x : Lexeme) (next : ℕ) (l : k ≤ length source) (s : StandsAt source k x next) where
   begins_at : x.span.start.index ≡ k + s.ignored
   begins_at =

@@ -14,10 +14,10 @@ use Rattle.juniper_documents.specs.Within.{HasTooDeep, IsWithin}
 use Rattle.juniper_nodes.specs.NodeTexts.{node_texts}
 use Rattle.firthnapkin_results.specs.Nodes.{written_nodes}
 use Rattle.firthnapkin_results.specs.Scalars.{scalar_reading}
-use Rattle.firthnapkin_results.specs.Faults.{written_fault, deep_fault, many_fault}
+use Rattle.firthnapkin_results.specs.Errors.{written_error, too_deep_error, too_many_tokens_error}
 use Rattle.firthnapkin_results.specs.Limits.{AreInvalid}
 use Rattle.firthnapkin_results.specs.Sources.{IsUnread}
-use Rattle.firthnapkin_results.specs.declared.fault.Fault.{Fault}
+use Rattle.firthnapkin_results.specs.declared.error.Error.{Error}
 use Rattle.firthnapkin_results.specs.declared.source.Unread.{Unread}
 use Rattle.firthnapkin_results.specs.declared.source.Unread.TheVariants.{OutOfMemory}
 use Rattle.firthnapkin_results.specs.declared.flat.Failure.{Failure}
@@ -47,11 +47,11 @@ pub record HasDocument (source : List ℕ) (limits : Limits) (tree : List (Defin
   pub within : IsWithin scalars limits.depth (chars source)
   pub few : HasFew [] (chars source) limits.tokens
 
--- The source is a text and no document, and this is its fault; no token before is nested too deep, and there are no
+-- The source is a text and no document, and this is its error; no token before is nested too deep, and there are no
 -- more tokens than the limit.
-pub record HasRefusal (source : List ℕ) (limits : Limits) (fault : errors.Fault) : Type 0 where
+pub record HasRefusal (source : List ℕ) (limits : Limits) (error : errors.Fault) : Type 0 where
   pub utf8 : IsUtf8 source
-  pub refusal : IsRefusal scalars (chars source) fault
+  pub refusal : IsRefusal scalars (chars source) error
   pub within : IsWithin scalars limits.depth (chars source)
   pub few : HasFew [] (chars source) limits.tokens
 
@@ -69,23 +69,23 @@ pub record HasTokenTooMany (source : List ℕ) (limits : Limits) (span : Span) :
 
 -- ---- what is wrong with a source
 
--- the error is the fault of a source that is no document
-abbrev pub IsSyntaxError : List ℕ → Limits → Fault → Type 0
+-- the error is that of a source that is no document
+abbrev pub IsSyntaxError : List ℕ → Limits → Error → Type 0
 IsSyntaxError source limits error =
-    (found : errors.Fault) × HasRefusal source limits found × (error ≡ written_fault (chars source) found)
+    (found : errors.Fault) × HasRefusal source limits found × (error ≡ written_error (chars source) found)
 
 -- the error is at the first token that is nested too deep
-abbrev pub IsTooDeep : List ℕ → Limits → Fault → Type 0
+abbrev pub IsTooDeep : List ℕ → Limits → Error → Type 0
 IsTooDeep source limits error =
-    (span : Span) × HasDeepToken source limits span × (error ≡ deep_fault (chars source) span)
+    (span : Span) × HasDeepToken source limits span × (error ≡ too_deep_error (chars source) span)
 
 -- the error is at the first token past the limit
-abbrev pub IsTooMany : List ℕ → Limits → Fault → Type 0
+abbrev pub IsTooMany : List ℕ → Limits → Error → Type 0
 IsTooMany source limits error =
-    (span : Span) × HasTokenTooMany source limits span × (error ≡ many_fault (chars source) span)
+    (span : Span) × HasTokenTooMany source limits span × (error ≡ too_many_tokens_error (chars source) span)
 
 -- why a source isn't what a call reads, within the limits, where IsRefused and IsDeep say which two errors those are
-abbrev pub IsFailureBy : (IsRefused IsDeep : List ℕ → Limits → Fault → Type 0) → List ℕ → Limits → Failure → Type 0
+abbrev pub IsFailureBy : (IsRefused IsDeep : List ℕ → Limits → Error → Type 0) → List ℕ → Limits → Failure → Type 0
 IsFailureBy IsRefused IsDeep source limits (failure.Refused error) = IsRefused source limits error
 IsFailureBy IsRefused IsDeep source limits (failure.TooDeep error) = IsDeep source limits error
 IsFailureBy IsRefused IsDeep source limits (failure.TooMany error) = IsTooMany source limits error
@@ -140,17 +140,17 @@ pub record HasNodes (source : List ℕ) (limits : Limits) (tree : List (Definiti
 -- A call reads sources that are an A, with these nodes: how many nodes and bytes of texts a source has, with as many of
 -- them in the buffers as fit; or why it has none.
 module _ {A : Type 0} (Is : List ℕ → Limits → A → Type 0) (nodes_of_it : A → List (nodes.Node Content))
-    (IsRefused IsDeep : List ℕ → Limits → Fault → Type 0) where
+    (IsRefused IsDeep : List ℕ → Limits → Error → Type 0) where
   abbrev pub ReturnsBy : List ℕ → Limits → List Node → List Node → List ℕ → List ℕ → Result Parsed Unread → Type 0
   ReturnsBy source limits old_nodes new_nodes old_texts new_texts (Ok (parsed.Tree lengths)) = (length source < 2 ^ 32)
       × ((x : A) × Is source limits x
       × AreWritten source (nodes_of_it x) old_nodes new_nodes old_texts new_texts lengths)
-  ReturnsBy source limits old_nodes new_nodes old_texts new_texts (Ok (parsed.Refused fault)) =
-      (length source < 2 ^ 32) × IsRefused source limits fault
-  ReturnsBy source limits old_nodes new_nodes old_texts new_texts (Ok (parsed.TooDeep fault)) =
-      (length source < 2 ^ 32) × IsDeep source limits fault
-  ReturnsBy source limits old_nodes new_nodes old_texts new_texts (Ok (parsed.TooMany fault)) =
-      (length source < 2 ^ 32) × IsTooMany source limits fault
+  ReturnsBy source limits old_nodes new_nodes old_texts new_texts (Ok (parsed.Refused error)) =
+      (length source < 2 ^ 32) × IsRefused source limits error
+  ReturnsBy source limits old_nodes new_nodes old_texts new_texts (Ok (parsed.TooDeep error)) =
+      (length source < 2 ^ 32) × IsDeep source limits error
+  ReturnsBy source limits old_nodes new_nodes old_texts new_texts (Ok (parsed.TooMany error)) =
+      (length source < 2 ^ 32) × IsTooMany source limits error
   ReturnsBy source limits old_nodes new_nodes old_texts new_texts (Err unread) = IsUnread source unread
       × (unread ≢ OutOfMemory → (new_nodes ≡ old_nodes) × (new_texts ≡ old_texts))
 
@@ -168,17 +168,17 @@ ReturnsParsed = ReturnsBy HasDocument document_nodes IsSyntaxError IsTooDeep
 -- of the numbers of nodes and bytes of a source, where it has some
 abbrev pub IfTree : Result Parsed Unread → (Lengths → Type 0) → Type 0
 IfTree (Ok (parsed.Tree lengths)) P = P lengths
-IfTree (Ok (parsed.Refused fault)) P = Unit {0}
-IfTree (Ok (parsed.TooDeep fault)) P = Unit {0}
-IfTree (Ok (parsed.TooMany fault)) P = Unit {0}
+IfTree (Ok (parsed.Refused error)) P = Unit {0}
+IfTree (Ok (parsed.TooDeep error)) P = Unit {0}
+IfTree (Ok (parsed.TooMany error)) P = Unit {0}
 IfTree (Err unread) P = Unit {0}
 
 -- ---- what is left in the caller's memory
 
 -- What a status says of a source that isn't what a call reads, within the limits, and which error is written. If the
 -- source isn't read the buffers are unchanged. While it is parsed nodes are written into them.
-pub record ReportsBy (IsRefused IsDeep : List ℕ → Limits → Fault → Type 0) (source : List ℕ) (limits : Limits)
-    (old_nodes new_nodes : List Node) (old_texts new_texts : List ℕ) (error : Fault) (status : ℕ) : Type 0 where
+pub record ReportsBy (IsRefused IsDeep : List ℕ → Limits → Error → Type 0) (source : List ℕ) (limits : Limits)
+    (old_nodes new_nodes : List Node) (old_texts new_texts : List ℕ) (error : Error) (status : ℕ) : Type 0 where
   pub refused : status ≡ SYNTAX_ERROR → IsRefused source limits error
   pub too_deep : status ≡ TOO_DEEP → IsDeep source limits error
   pub too_many : status ≡ TOO_MANY_TOKENS → IsTooMany source limits error
@@ -190,5 +190,5 @@ pub record ReportsBy (IsRefused IsDeep : List ℕ → Limits → Fault → Type 
       → (new_nodes ≡ old_nodes) × (new_texts ≡ old_texts)
 
 -- of documents
-abbrev pub ReportsFailure : List ℕ → Limits → List Node → List Node → List ℕ → List ℕ → Fault → ℕ → Type 0
+abbrev pub ReportsFailure : List ℕ → Limits → List Node → List Node → List ℕ → List ℕ → Error → ℕ → Type 0
 ReportsFailure = ReportsBy IsSyntaxError IsTooDeep

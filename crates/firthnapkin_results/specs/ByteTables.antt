@@ -5,7 +5,7 @@ use Rattle.std.specs.Global.{Vec}
 use Rattle.std.specs.Vec.{vec_len, vec_capacity}
 use Rattle.juniper_tokens.specs.device.ByteRuns.{is_inner}
 use Rattle.firthnapkin_results.specs.declared.byte_table.ByteTable.{ByteTable}
-use Rattle.firthnapkin_results.specs.Places.{bytes_before}
+use Rattle.firthnapkin_results.specs.Positions.{bytes_before}
 
 abbrev pub byte_from : Option (Vec ℕ) → ℕ → ℕ → ℕ
 byte_from None length index = min index length

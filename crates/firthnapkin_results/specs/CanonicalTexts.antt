@@ -5,7 +5,7 @@ use Rattle.graphql_lexical.specs.Kinds.{LexicalError}
 use Rattle.graphql_lexical.specs.Canonical.{canonical}
 use Rattle.graphql_lexical.specs.Cutting.{Lexeme, Breaks}
 use Rattle.juniper_parser.specs.Promise.{lexical_fault}
-use Rattle.firthnapkin_results.specs.Faults.{written_fault}
+use Rattle.firthnapkin_results.specs.Errors.{written_error}
 use Rattle.firthnapkin_results.specs.Sources.{IsUnread}
 use Rattle.firthnapkin_results.specs.declared.source.Unread.{Unread}
 use Rattle.firthnapkin_results.specs.Tokens.{HasTokens}
@@ -23,7 +23,7 @@ abbrev pub ReturnsCanonical : List ℕ → Result Canonical Unread → Type 0
 ReturnsCanonical source (Ok (answer.Text text)) = (length source < 2 ^ 32)
     × ((lexemes : List Lexeme) × HasTokens source lexemes
     × (string_bytes text ≡ encode_utf8_all (canonical lexemes)))
-ReturnsCanonical source (Ok (answer.Refused fault)) = (length source < 2 ^ 32) × IsUtf8 source
-    × ((error : LexicalError) × (at : Place)
-    × Breaks (chars source) error at × (fault ≡ written_fault (chars source) (lexical_fault error at)))
+ReturnsCanonical source (Ok (answer.Refused error)) = (length source < 2 ^ 32) × IsUtf8 source
+    × ((lexical : LexicalError) × (at : Place)
+    × Breaks (chars source) lexical at × (error ≡ written_error (chars source) (lexical_fault lexical at)))
 ReturnsCanonical source (Err unread) = IsUnread source unread

@@ -4,13 +4,13 @@ use Rattle.graphql_lexical.specs.Place.{Place, Span}
 use Rattle.graphql_lexical.specs.Kinds.{LexicalError}
 use Rattle.graphql_lexical.specs.Cutting.{Lexeme, Leads}
 use Rattle.juniper_parser.specs.Promise.{lexical_fault}
-use Rattle.firthnapkin_results.specs.Faults.{written_fault, many_fault}
+use Rattle.firthnapkin_results.specs.Errors.{written_error, too_many_tokens_error}
 use Rattle.firthnapkin_results.specs.Answers.{Fills}
 use Rattle.juniper_tokens.specs.Counting.{HasMore}
 use Rattle.firthnapkin_results.specs.Sources.{IsUnread}
 use Rattle.firthnapkin_results.specs.declared.source.Unread.{Unread}
 use Rattle.firthnapkin_results.specs.declared.source.Unread.TheVariants as unread
-use Rattle.firthnapkin_results.specs.Tokens.{written_tokens, HasTokens, HasFaultAfter}
+use Rattle.firthnapkin_results.specs.Tokens.{written_tokens, HasTokens, HasErrorAfter}
 use Rattle.firthnapkin_results.specs.declared.token.Token.{Token}
 use Rattle.firthnapkin_results.specs.declared.tokens.Written.{Written}
 use Rattle.firthnapkin_results.specs.declared.tokens.Written.TheVariants as written
@@ -28,12 +28,12 @@ abbrev pub ReturnsTokens : List ℕ → ℕ → List Token → List Token → Re
 ReturnsTokens source most old new (Ok (written.Tokens count)) = (length source < 2 ^ 32)
     × ((lexemes : List Lexeme) × HasTokens source lexemes
     × (length lexemes ≤ most + 1) × Fills (written_tokens (chars source) lexemes) old new × (count ≡ length lexemes))
-ReturnsTokens source most old new (Ok (written.Refused count fault)) = (length source < 2 ^ 32)
-    × ((before : List Lexeme) × (error : LexicalError) × (at : Place)
-    × HasFaultAfter source before error at × (length before ≤ most)
+ReturnsTokens source most old new (Ok (written.Refused count error)) = (length source < 2 ^ 32)
+    × ((before : List Lexeme) × (lexical : LexicalError) × (at : Place)
+    × HasErrorAfter source before lexical at × (length before ≤ most)
     × Fills (written_tokens (chars source) before) old new
-    × (count ≡ length before) × (fault ≡ written_fault (chars source) (lexical_fault error at)))
-ReturnsTokens source most old new (Ok (written.Many fault)) = (length source < 2 ^ 32) × IsUtf8 source × ((span : Span)
+    × (count ≡ length before) × (error ≡ written_error (chars source) (lexical_fault lexical at)))
+ReturnsTokens source most old new (Ok (written.Many error)) = (length source < 2 ^ 32) × IsUtf8 source × ((span : Span)
     × (more : HasMore [] (chars source) most span) × Fills (written_tokens (chars source) more.front) old new
-    × (fault ≡ many_fault (chars source) span))
+    × (error ≡ too_many_tokens_error (chars source) span))
 ReturnsTokens source most old new (Err unread) = IsUnread source unread × IsLeft source old new unread

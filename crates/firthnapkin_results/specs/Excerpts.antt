@@ -41,8 +41,8 @@ pub record Around : Type 0 where
   pub line : Text
   pub below : Option Text
 
-abbrev pub around_place : List Text → Place → Around
-around_place lines at = record {
+abbrev pub around_position : List Text → Place → Around
+around_position lines at = record {
   number = at.line + 1;
   column = at.column;
   above = numbered lines at.line;
@@ -52,7 +52,7 @@ around_place lines at = record {
 
 -- the lines of a source around the position between these two parts of it
 abbrev pub around : Text → Text → Around
-around before after = around_place (lines (before ++ after)) (position_after before)
+around before after = around_position (lines (before ++ after)) (position_after before)
 
 -- ---- what is shown of a line
 

@@ -6,11 +6,11 @@ use Rattle.juniper_values.specs.Scalar.{Content}
 use Rattle.juniper_nodes.specs.NodeTexts.{text_of_node}
 use Rattle.firthnapkin_results.specs.Nodes.{byte_count}
 
-abbrev pub PlaceFits : places.Place → Type 0
-PlaceFits p = (p.index < 2 ^ 32) × (p.line < 2 ^ 32) × (p.column < 2 ^ 32)
+abbrev pub PositionFits : places.Place → Type 0
+PositionFits p = (p.index < 2 ^ 32) × (p.line < 2 ^ 32) × (p.column < 2 ^ 32)
 
 abbrev pub SpanFits : places.Span → Type 0
-SpanFits span = PlaceFits span.start × PlaceFits span.end
+SpanFits span = PositionFits span.start × PositionFits span.end
 
 -- the numbers of a node whose text begins at this byte of the texts
 pub record NodeFits (at : ℕ) (node : Node Content) : Type 0 where

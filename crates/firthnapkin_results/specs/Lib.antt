@@ -1,14 +1,14 @@
-pub mod Places
+pub mod Positions
 pub mod ByteTables
 pub mod Nodes
 pub mod Scalars
 pub mod Excerpts
-pub mod Faults
+pub mod Errors
 pub mod Limits
 pub mod Messages
 pub mod Answers
 pub mod Literals
-pub mod Weighed
+pub mod Complexities
 pub mod Outliners
 pub mod Buildings
 pub mod Fits

@@ -11,8 +11,8 @@ use Rattle.juniper_tokens.specs.Errors as errors
 use Rattle.juniper_values.specs.Scalar.{Content}
 use Rattle.juniper_documents.specs.Literals.{HasLiteral, HasLiteralTooDeep, IsLiteralRefusal, IsLiteralWithin, NamesTypeError, NamesValueError}
 use Rattle.firthnapkin_results.specs.Answers.{IsFailureBy, ReportsBy, ReturnsBy, nodes_in, scalars, texts_in}
-use Rattle.firthnapkin_results.specs.Faults.{deep_fault, written_fault}
-use Rattle.firthnapkin_results.specs.declared.fault.Fault.{Fault}
+use Rattle.firthnapkin_results.specs.Errors.{too_deep_error, written_error}
+use Rattle.firthnapkin_results.specs.declared.error.Error.{Error}
 use Rattle.firthnapkin_results.specs.declared.flat.Failure.{Failure}
 use Rattle.firthnapkin_results.specs.declared.flat.Parsed.{Parsed}
 use Rattle.firthnapkin_results.specs.declared.limits.Limits.{Limits}
@@ -35,24 +35,24 @@ module _ {A : Type 0} (R : A → List Lexeme → Type 0) where
     pub deep : HasLiteralTooDeep R limits.depth (chars source) span
     pub few : HasFew [] (chars source) limits.tokens
 
-  -- The source is a text and no literal, and this is its fault, by the errors that Names says; no token before is
+  -- The source is a text and no literal, and this is its error, by the errors that Names says; no token before is
   -- nested too deep, and there are no more tokens than the limit.
-  pub record IsFaultBy (Names : List Lexeme → Lexeme → errors.Error → Type 0) (source : List ℕ) (limits : Limits)
-      (fault : errors.Fault) : Type 0 where
+  pub record IsErrorBy (Names : List Lexeme → Lexeme → errors.Error → Type 0) (source : List ℕ) (limits : Limits)
+      (error : errors.Fault) : Type 0 where
     pub utf8 : IsUtf8 source
-    pub refusal : IsLiteralRefusal R Names (chars source) fault
+    pub refusal : IsLiteralRefusal R Names (chars source) error
     pub within : IsLiteralWithin R limits.depth (chars source)
     pub few : HasFew [] (chars source) limits.tokens
 
   -- the error is at the first token that is nested too deep
-  abbrev pub IsDeepLiteral : List ℕ → Limits → Fault → Type 0
+  abbrev pub IsDeepLiteral : List ℕ → Limits → Error → Type 0
   IsDeepLiteral source limits error =
-      (span : Span) × IsDeepToken source limits span × (error ≡ deep_fault (chars source) span)
+      (span : Span) × IsDeepToken source limits span × (error ≡ too_deep_error (chars source) span)
 
-  -- the error is the fault of a source that is no literal
-  abbrev pub IsNoLiteral : (List Lexeme → Lexeme → errors.Error → Type 0) → List ℕ → Limits → Fault → Type 0
+  -- the error is that of a source that is no literal
+  abbrev pub IsNoLiteral : (List Lexeme → Lexeme → errors.Error → Type 0) → List ℕ → Limits → Error → Type 0
   IsNoLiteral Names source limits error =
-      (found : errors.Fault) × IsFaultBy Names source limits found × (error ≡ written_fault (chars source) found)
+      (found : errors.Fault) × IsErrorBy Names source limits found × (error ≡ written_error (chars source) found)
 
 -- ---- one value, in which variables may stand where free is true
 
@@ -67,10 +67,10 @@ module _ (free : Bool) where
   abbrev pub IsOneValue : List ℕ → Limits → Located (Value Content) → Type 0
   IsOneValue = IsOne (IsLocated (IsValue scalars free))
 
-  abbrev pub IsValueError : List ℕ → Limits → Fault → Type 0
+  abbrev pub IsValueError : List ℕ → Limits → Error → Type 0
   IsValueError = IsNoLiteral (IsLocated (IsValue scalars free)) (NamesValueError scalars free)
 
-  abbrev pub IsDeepValue : List ℕ → Limits → Fault → Type 0
+  abbrev pub IsDeepValue : List ℕ → Limits → Error → Type 0
   IsDeepValue = IsDeepLiteral (IsLocated (IsValue scalars free))
 
   abbrev pub IsValueFailure : List ℕ → Limits → Failure → Type 0
@@ -79,7 +79,7 @@ module _ (free : Bool) where
   abbrev pub ReturnsValue : List ℕ → Limits → List Node → List Node → List ℕ → List ℕ → Result Parsed Unread → Type 0
   ReturnsValue = ReturnsBy IsOneValue value_nodes IsValueError IsDeepValue
 
-  abbrev pub ReportsNoValue : List ℕ → Limits → List Node → List Node → List ℕ → List ℕ → Fault → ℕ → Type 0
+  abbrev pub ReportsNoValue : List ℕ → Limits → List Node → List Node → List ℕ → List ℕ → Error → ℕ → Type 0
   ReportsNoValue = ReportsBy IsValueError IsDeepValue
 
 -- ---- one type
@@ -94,10 +94,10 @@ texts_of_type type = texts_in (type_nodes type)
 abbrev pub IsOneType : List ℕ → Limits → Located TypeRef → Type 0
 IsOneType = IsOne (IsLocated IsType)
 
-abbrev pub IsTypeError : List ℕ → Limits → Fault → Type 0
+abbrev pub IsTypeError : List ℕ → Limits → Error → Type 0
 IsTypeError = IsNoLiteral (IsLocated IsType) NamesTypeError
 
-abbrev pub IsDeepType : List ℕ → Limits → Fault → Type 0
+abbrev pub IsDeepType : List ℕ → Limits → Error → Type 0
 IsDeepType = IsDeepLiteral (IsLocated IsType)
 
 abbrev pub IsTypeFailure : List ℕ → Limits → Failure → Type 0
@@ -106,5 +106,5 @@ IsTypeFailure = IsFailureBy IsTypeError IsDeepType
 abbrev pub ReturnsType : List ℕ → Limits → List Node → List Node → List ℕ → List ℕ → Result Parsed Unread → Type 0
 ReturnsType = ReturnsBy IsOneType type_nodes IsTypeError IsDeepType
 
-abbrev pub ReportsNoType : List ℕ → Limits → List Node → List Node → List ℕ → List ℕ → Fault → ℕ → Type 0
+abbrev pub ReportsNoType : List ℕ → Limits → List Node → List Node → List ℕ → List ℕ → Error → ℕ → Type 0
 ReportsNoType = ReportsBy IsTypeError IsDeepType

@@ -11,9 +11,9 @@ use Rattle.graphql_grammar.specs.Grammar.{IsLocated, IsType, IsValue}
 use Rattle.juniper_parser.specs.Promise.{IsRefusal}
 use Rattle.juniper_documents.specs.Literals.{IsLiteralRefusal, NamesTypeError, NamesValueError}
 use Rattle.firthnapkin_results.specs.Answers.{scalars}
-use Rattle.firthnapkin_results.specs.Faults.{written_fault, deep_fault, many_fault, unknown_fault, cycle_fault}
+use Rattle.firthnapkin_results.specs.Errors.{written_error, too_deep_error, too_many_tokens_error, unknown_fragment_error, fragment_cycle_error}
 use Rattle.firthnapkin_results.specs.Sources.{IsUnread}
-use Rattle.firthnapkin_results.specs.declared.fault.Fault.{Fault}
+use Rattle.firthnapkin_results.specs.declared.error.Error.{Error}
 use Rattle.firthnapkin_results.specs.declared.source.Unread.{Unread}
 use Rattle.firthnapkin_results.specs.declared.source.Unread.TheVariants as unread
 
@@ -26,23 +26,25 @@ pub data IsRefused (text : Text) (found : errors.Fault) : Type 0 where
   as_type : IsLiteralRefusal (IsLocated IsType) NamesTypeError text found → IsRefused text found
 
 -- Such an error of this source is given by calls, and these are its words, in UTF-8.
-pub data IsErrorOf (source : List ℕ) (fault : Fault) : List ℕ → Type 0 where
-  refused : {found : errors.Fault} → IsRefused (chars source) found → fault ≡ written_fault (chars source) found
-      → IsErrorOf source fault (encode_utf8_all (error_text found.error))
-  too_deep : {span : Span} → fault ≡ deep_fault (chars source) span → IsErrorOf source fault (codes "Too deeply nested")
-  too_many : {span : Span} → fault ≡ many_fault (chars source) span → IsErrorOf source fault (codes "Too many tokens")
-  unknown : {span : Span} → fault ≡ unknown_fault (chars source) span → IsErrorOf source fault
-      (codes "Unknown fragment")
-  cycle : {span : Span} → fault ≡ cycle_fault (chars source) span
-      → IsErrorOf source fault (codes "Fragment spread within itself")
+pub data IsErrorOf (source : List ℕ) (error : Error) : List ℕ → Type 0 where
+  refused : {found : errors.Fault} → IsRefused (chars source) found → error ≡ written_error (chars source) found
+      → IsErrorOf source error (encode_utf8_all (error_text found.error))
+  too_deep : {span : Span} → error ≡ too_deep_error (chars source) span
+      → IsErrorOf source error (codes "Too deeply nested")
+  too_many : {span : Span} → error ≡ too_many_tokens_error (chars source) span
+      → IsErrorOf source error (codes "Too many tokens")
+  unknown : {span : Span} → error ≡ unknown_fragment_error (chars source) span
+      → IsErrorOf source error (codes "Unknown fragment")
+  cycle : {span : Span} → error ≡ fragment_cycle_error (chars source) span
+      → IsErrorOf source error (codes "Fragment spread within itself")
 
 -- If the error is one that calls give, these are its words.
-abbrev pub AreWords : List ℕ → Fault → List ℕ → Type 0
-AreWords source fault message = (words : List ℕ) → IsErrorOf source fault words → message ≡ words
+abbrev pub AreWords : List ℕ → Error → List ℕ → Type 0
+AreWords source error message = (words : List ℕ) → IsErrorOf source error words → message ≡ words
 
 -- no call on this source gives the error
-abbrev pub IsNoErrorOf : List ℕ → Fault → Type 0
-IsNoErrorOf source fault = (words : List ℕ) → IsErrorOf source fault words → ⊥
+abbrev pub IsNoErrorOf : List ℕ → Error → Type 0
+IsNoErrorOf source error = (words : List ℕ) → IsErrorOf source error words → ⊥
 
 -- no scalar type's own error
 abbrev pub IsOfGrammar : errors.Error → Type 0
@@ -52,44 +54,44 @@ IsOfGrammar (errors.Lexical e) = Unit {0}
 IsOfGrammar (errors.ExpectedScalar t) = ⊥
 
 -- the bytes of the source that the error shows
-abbrev pub shown_bytes : List ℕ → Fault → List ℕ
-shown_bytes source fault = take (fault.text_end - fault.text_start) (drop fault.text_start source)
+abbrev pub shown_bytes : List ℕ → Error → List ℕ
+shown_bytes source error = take (error.text_end - error.text_start) (drop error.text_start source)
 
 -- these bytes are a text
-abbrev pub ShowsText : List ℕ → Fault → Type 0
-ShowsText source fault =
-    (fault.text_start ≤ fault.text_end) × ((fault.text_end ≤ length source) × IsUtf8 (shown_bytes source fault))
+abbrev pub ShowsText : List ℕ → Error → Type 0
+ShowsText source error =
+    (error.text_start ≤ error.text_end) × ((error.text_end ≤ length source) × IsUtf8 (shown_bytes source error))
 
 -- A lexical error has words: of the character that it names, of the escape that it shows, or of neither.
-pub data HasLexicalWords (source : List ℕ) (fault : Fault) : Type 0 where
-  of_character : (fault.detail ≡ 1) ⊎ ((fault.detail ≡ 2) ⊎ (fault.detail ≡ 4)) → IsScalar fault.character
-      → HasLexicalWords source fault
-  of_escape : fault.detail ≡ 5 → ShowsText source fault → HasLexicalWords source fault
-  of_string : fault.detail ≡ 3 → HasLexicalWords source fault
-  of_neither : (fault.detail ≡ 6) ⊎ (fault.detail ≡ 7) → HasLexicalWords source fault
+pub data HasLexicalWords (source : List ℕ) (error : Error) : Type 0 where
+  of_character : (error.detail ≡ 1) ⊎ ((error.detail ≡ 2) ⊎ (error.detail ≡ 4)) → IsScalar error.character
+      → HasLexicalWords source error
+  of_escape : error.detail ≡ 5 → ShowsText source error → HasLexicalWords source error
+  of_string : error.detail ≡ 3 → HasLexicalWords source error
+  of_neither : (error.detail ≡ 6) ⊎ (error.detail ≡ 7) → HasLexicalWords source error
 
 -- An error has words: its kind is one that calls report, and what its words show is there.
-pub data HasWords (source : List ℕ) (fault : Fault) : Type 0 where
-  of_token : fault.kind ≡ 0 → ShowsText source fault → HasWords source fault
-  of_end : fault.kind ≡ 1 → HasWords source fault
-  of_lexical : fault.kind ≡ 2 → HasLexicalWords source fault → HasWords source fault
-  of_limit : (fault.kind ≡ 3) ⊎ (fault.kind ≡ 4) → HasWords source fault
-  of_spread : (fault.kind ≡ 6) ⊎ (fault.kind ≡ 7) → HasWords source fault
+pub data HasWords (source : List ℕ) (error : Error) : Type 0 where
+  of_token : error.kind ≡ 0 → ShowsText source error → HasWords source error
+  of_end : error.kind ≡ 1 → HasWords source error
+  of_lexical : error.kind ≡ 2 → HasLexicalWords source error → HasWords source error
+  of_limit : (error.kind ≡ 3) ⊎ (error.kind ≡ 4) → HasWords source error
+  of_spread : (error.kind ≡ 6) ⊎ (error.kind ≡ 7) → HasWords source error
 
 -- an error in words, of which there are some, or why there are none
-abbrev pub ReturnsMessage : List ℕ → Fault → Result (Option (String Global)) Unread → Type 0
-ReturnsMessage source fault (Ok (Some message)) = (length source < 2 ^ 32)
-    × (IsUtf8 source × ((0 < length (string_bytes message)) × AreWords source fault (string_bytes message)))
-ReturnsMessage source fault (Ok None) = (length source < 2 ^ 32) × (IsUtf8 source × IsNoErrorOf source fault)
-ReturnsMessage source fault (Err unread) = IsUnread source unread
+abbrev pub ReturnsMessage : List ℕ → Error → Result (Option (String Global)) Unread → Type 0
+ReturnsMessage source error (Ok (Some message)) = (length source < 2 ^ 32)
+    × (IsUtf8 source × ((0 < length (string_bytes message)) × AreWords source error (string_bytes message)))
+ReturnsMessage source error (Ok None) = (length source < 2 ^ 32) × (IsUtf8 source × IsNoErrorOf source error)
+ReturnsMessage source error (Err unread) = IsUnread source unread
 
 -- there are words exactly if the error has some, and memory runs out only for these
-abbrev pub ReturnsItsWords : List ℕ → Fault → Result (Option (String Global)) Unread → Type 0
-ReturnsItsWords source fault (Ok (Some message)) = HasWords source fault
-ReturnsItsWords source fault (Ok None) = ¬ HasWords source fault
-ReturnsItsWords source fault (Err unread.OutOfMemory) = HasWords source fault
-ReturnsItsWords source fault (Err unread.NotUtf8) = Unit {0}
-ReturnsItsWords source fault (Err unread.TooLong) = Unit {0}
+abbrev pub ReturnsItsWords : List ℕ → Error → Result (Option (String Global)) Unread → Type 0
+ReturnsItsWords source error (Ok (Some message)) = HasWords source error
+ReturnsItsWords source error (Ok None) = ¬ HasWords source error
+ReturnsItsWords source error (Err unread.OutOfMemory) = HasWords source error
+ReturnsItsWords source error (Err unread.NotUtf8) = Unit {0}
+ReturnsItsWords source error (Err unread.TooLong) = Unit {0}
 
 -- the statuses of `firthnapkin_message` and `firthnapkin_excerpt`
 abbrev pub IsWordsStatus : ℕ → Type 0

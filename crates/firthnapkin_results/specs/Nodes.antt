@@ -11,7 +11,7 @@ use Rattle.juniper_values.specs.Default.{bool_in}
 use Rattle.juniper_values.specs.Scalar.{Content, integer, text, boolean, custom}
 use Rattle.juniper_nodes.specs.Literal.{int_in, str_in}
 use Rattle.juniper_nodes.specs.NodeTexts.{text_of_node}
-use Rattle.firthnapkin_results.specs.Places.{bytes_before, written_place}
+use Rattle.firthnapkin_results.specs.Positions.{bytes_before, written_position}
 use Rattle.firthnapkin_results.specs.declared.node.Node.{Node}
 use Rattle.firthnapkin_results.specs.declared.node.Extent.{Extent}
 use Rattle.firthnapkin_results.specs.declared.node.Value.{Value}
@@ -148,8 +148,8 @@ abbrev pub written_node : List ℕ → ℕ → nodes.Node Content → Node
 written_node source at node = record {
   kind = node_number node.kind node.content;
   descendants = node.descendants;
-  start = written_place source node.span.start;
-  end = written_place source node.span.end;
+  start = written_position source node.span.start;
+  end = written_position source node.span.end;
   name_start = (node_extent source node.kind node.span node.label).start;
   name_end = (node_extent source node.kind node.span node.label).end;
   value = (node_value source at node.content node.label).number;

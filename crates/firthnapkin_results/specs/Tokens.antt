@@ -6,7 +6,7 @@ use Rattle.graphql_lexical.specs.declared.kind.Kind.{Kind}
 use Rattle.graphql_lexical.specs.declared.kind.Kind.TheVariants as kind
 use Rattle.graphql_lexical.specs.Tokens.{quotes}
 use Rattle.graphql_lexical.specs.Cutting.{Lexeme, Cut, Leads, BreaksThere}
-use Rattle.firthnapkin_results.specs.Places.{written_place}
+use Rattle.firthnapkin_results.specs.Positions.{written_position}
 use Rattle.firthnapkin_results.specs.declared.token.Token.{Token}
 
 -- The number of a kind: the end is the first, so that a new kind of token renumbers none.
@@ -39,8 +39,8 @@ abbrev pub token_at : List ℕ → Kind → Span → Token
 token_at source kind span = record {
   kind = kind_number kind;
   quotes = quote_count kind;
-  start = written_place source span.start;
-  end = written_place source span.end;
+  start = written_position source span.start;
+  end = written_position source span.end;
 }
 
 abbrev pub written_token : List ℕ → Lexeme → Token
@@ -51,7 +51,7 @@ written_tokens source xs = map (written_token source) xs
 
 -- ---- texts
 
--- the bytes of a source between the places of a token, without its quotes
+-- the bytes of a source between the positions of a token, without its quotes
 abbrev pub text_bytes : List ℕ → Token → List ℕ
 text_bytes source token =
     take ((token.end.byte - token.start.byte) - 2 * token.quotes) (drop (token.start.byte + token.quotes) source)
@@ -68,7 +68,7 @@ pub record HasTokens (source : List ℕ) (lexemes : List Lexeme) : Type 0 where
   pub cut : Cut (chars source) lexemes
 
 -- The source is a text that begins with these tokens, none of them the end, and after them is this lexical error.
-pub record HasFaultAfter (source : List ℕ) (before : List Lexeme) (error : LexicalError) (at : Place) : Type 0 where
+pub record HasErrorAfter (source : List ℕ) (before : List Lexeme) (error : LexicalError) (at : Place) : Type 0 where
   pub utf8 : IsUtf8 source
   pub done : List ℕ
   pub after : List ℕ

@@ -15,7 +15,7 @@ use crate::builder::NodeBuilder;
 use crate::builder::building::Building;
 use crate::builder::outliner::{NoOutlines, Outliner};
 use crate::byte_table::ByteTable;
-use crate::fault::{Fault, deep_fault, many_fault, written_fault};
+use crate::error::{Error, too_deep_error, too_many_tokens_error, written_error};
 use crate::limits::Limits;
 use crate::node::Node;
 use crate::scalar::SourceScalar;
@@ -39,19 +39,19 @@ pub enum Parsed {
     /// The source is a document within the limits.
     Tree(Lengths),
     /// The source isn't a document.
-    Refused(Fault),
+    Refused(Error),
     /// A token is nested too deep, and those up to it begin a document.
-    TooDeep(Fault),
+    TooDeep(Error),
     /// There is a token past the limit, before the first lexical error.
-    TooMany(Fault),
+    TooMany(Error),
 }
 
 /// Why a source has no tree within the limits.
 #[derive(Clone, Copy)]
 pub(crate) enum Failure {
-    Refused(Fault),
-    TooDeep(Fault),
-    TooMany(Fault),
+    Refused(Error),
+    TooDeep(Error),
+    TooMany(Error),
     OutOfMemory,
 }
 
@@ -97,9 +97,9 @@ pub(crate) fn unparsed(failure: Failure) -> Result<Parsed, Unread>
     ensures { result ≡ unparsed failure }
 {
     match failure {
-        Failure::Refused(fault) => Ok(Parsed::Refused(fault)),
-        Failure::TooDeep(fault) => Ok(Parsed::TooDeep(fault)),
-        Failure::TooMany(fault) => Ok(Parsed::TooMany(fault)),
+        Failure::Refused(error) => Ok(Parsed::Refused(error)),
+        Failure::TooDeep(error) => Ok(Parsed::TooDeep(error)),
+        Failure::TooMany(error) => Ok(Parsed::TooMany(error)),
         Failure::OutOfMemory => Err(Unread::OutOfMemory),
     }
 }
@@ -197,10 +197,10 @@ pub(crate) fn failure_of(table: &ByteTable, failure: LimitFailure) -> Failure
 {
     match failure {
         LimitFailure::Parse(ParseFailure::Refused(found)) => {
-            Failure::Refused(written_fault(table, &found))
+            Failure::Refused(written_error(table, &found))
         }
-        LimitFailure::TooDeep(span) => Failure::TooDeep(deep_fault(table, span)),
-        LimitFailure::TooMany(span) => Failure::TooMany(many_fault(table, span)),
+        LimitFailure::TooDeep(span) => Failure::TooDeep(too_deep_error(table, span)),
+        LimitFailure::TooMany(span) => Failure::TooMany(too_many_tokens_error(table, span)),
         LimitFailure::Parse(ParseFailure::Memory) => Failure::OutOfMemory,
     }
 }

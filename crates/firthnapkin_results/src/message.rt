@@ -12,11 +12,11 @@ ghost use Rattle.graphql_lexical.specs.declared.kind.Kind as kind;
 ghost use Rattle.juniper_tokens.specs.Errors as errors;
 ghost use Rattle.juniper_tokens.specs.Errors.{view_error, view_lexer_error};
 ghost use Rattle.juniper_parser.specs.Promise.{lexical_fault};
-ghost use Rattle.firthnapkin_results.specs.Faults.{written_fault};
+ghost use Rattle.firthnapkin_results.specs.Errors.{written_error};
 ghost use Rattle.firthnapkin_results.specs.Messages.{HasLexicalWords, HasWords, IsRefused, ReturnsMessage, ReturnsItsWords, IsOfGrammar, ShowsText, shown_bytes, IsQuoted};
 
-use crate::fault::{
-    FRAGMENT_CYCLE, Fault, INVALID_NUMBER, LEXICAL, TOO_DEEP, TOO_MANY_TOKENS,
+use crate::error::{
+    Error, FRAGMENT_CYCLE, INVALID_NUMBER, LEXICAL, TOO_DEEP, TOO_MANY_TOKENS,
     UNEXPECTED_CHARACTER, UNEXPECTED_END, UNEXPECTED_END_IN_TOKEN, UNEXPECTED_TOKEN,
     UNKNOWN_CHARACTER, UNKNOWN_CHARACTER_IN_STRING, UNKNOWN_ESCAPE, UNKNOWN_FRAGMENT,
     UNTERMINATED_STRING,
@@ -28,56 +28,60 @@ use std::alloc::{AllocError, Global};
 /// Returns an error of a source in words, or `None` if there are none for such an error: it has a number that no error
 /// has, or the bytes that it shows aren't UTF-8 or aren't in the source. Nothing is known if the bytes of the source
 /// aren't UTF-8 or are 4 GiB or more, or if memory runs out. The source isn't parsed.
-pub fn message_of(alloc: Global, source: &[u8], fault: &Fault) -> Result<Option<String>, Unread>
-    ensures message { ReturnsMessage source.now fault.now result }
-    ensures exact { ReturnsItsWords source.now fault.now result }
+pub fn message_of(alloc: Global, source: &[u8], error: &Error) -> Result<Option<String>, Unread>
+    ensures message { ReturnsMessage source.now error.now result }
+    ensures exact { ReturnsItsWords source.now error.now result }
 {
-    message_of_text(alloc, text_of(source)?, fault)
+    message_of_text(alloc, text_of(source)?, error)
 }
 
-fn message_of_text(alloc: Global, text: &str, fault: &Fault) -> Result<Option<String>, Unread>
+fn message_of_text(alloc: Global, text: &str, error: &Error) -> Result<Option<String>, Unread>
     requires { length text.now < 2 ^ 32 }
-    ensures message { ReturnsMessage text.now fault.now result }
-    ensures exact { ReturnsItsWords text.now fault.now result }
+    ensures message { ReturnsMessage text.now error.now result }
+    ensures exact { ReturnsItsWords text.now error.now result }
 {
-    if fault.kind == TOO_DEEP {
+    if error.kind == TOO_DEEP {
         return Ok(Some(String::from_str(alloc, "Too deeply nested")?));
     }
-    if fault.kind == TOO_MANY_TOKENS {
+    if error.kind == TOO_MANY_TOKENS {
         return Ok(Some(String::from_str(alloc, "Too many tokens")?));
     }
-    if fault.kind == UNKNOWN_FRAGMENT {
+    if error.kind == UNKNOWN_FRAGMENT {
         return Ok(Some(String::from_str(alloc, "Unknown fragment")?));
     }
-    if fault.kind == FRAGMENT_CYCLE {
+    if error.kind == FRAGMENT_CYCLE {
         return Ok(Some(String::from_str(alloc, "Fragment spread within itself")?));
     }
-    match error_of(alloc, text, fault)? {
-        Some(error) => Ok(Some(format!(in alloc; "{error}")?)),
+    match parse_error_of(alloc, text, error)? {
+        Some(parse_error) => Ok(Some(format!(in alloc; "{parse_error}")?)),
         None => Ok(None),
     }
 }
 
-// The error that a fault of this source was made of.
-fn error_of(alloc: Global, source: &str, fault: &Fault) -> Result<Option<ParseError>, AllocError>
+// The `ParseError` that an error of this source was made of.
+fn parse_error_of(
+    alloc: Global,
+    source: &str,
+    error: &Error,
+) -> Result<Option<ParseError>, AllocError>
     ensures exact { (found : errors.Fault) → IsRefused (chars source.now) found
-        → fault.now ≡ written_fault (chars source.now) found
-        → IfOk result (λ made. MatchOption made ⊥ (λ error. view_error error ≡ found.error)) }
-    ensures own { IfOk result (λ made. MatchOption made (Unit {0}) (λ error. IsOfGrammar (view_error error))) }
-    ensures words { IfOk result (λ made. MatchOption made (fault.now.kind ≤ 2 → ¬ HasWords source.now fault.now)
-        (λ _. HasWords source.now fault.now)) }
-    ensures memory { IfErr result (λ _. HasWords source.now fault.now) }
+        → error.now ≡ written_error (chars source.now) found
+        → IfOk result (λ made. MatchOption made ⊥ (λ it. view_error it ≡ found.error)) }
+    ensures own { IfOk result (λ made. MatchOption made (Unit {0}) (λ it. IsOfGrammar (view_error it))) }
+    ensures words { IfOk result (λ made. MatchOption made (error.now.kind ≤ 2 → ¬ HasWords source.now error.now)
+        (λ _. HasWords source.now error.now)) }
+    ensures memory { IfErr result (λ _. HasWords source.now error.now) }
 {
-    if fault.kind == UNEXPECTED_TOKEN {
-        match text_shown(source, fault) {
+    if error.kind == UNEXPECTED_TOKEN {
+        match text_shown(source, error) {
             Some(written) => Ok(Some(ParseError::UnexpectedToken(shown_token(alloc, written)?))),
             None => Ok(None),
         }
-    } else if fault.kind == UNEXPECTED_END {
+    } else if error.kind == UNEXPECTED_END {
         Ok(Some(ParseError::UnexpectedEndOfFile))
-    } else if fault.kind == LEXICAL {
-        match lexical_error_of(alloc, source, fault)? {
-            Some(error) => Ok(Some(ParseError::LexerError(error))),
+    } else if error.kind == LEXICAL {
+        match lexical_error_of(alloc, source, error)? {
+            Some(lexer_error) => Ok(Some(ParseError::LexerError(lexer_error))),
             None => Ok(None),
         }
     } else {
@@ -88,21 +92,21 @@ fn error_of(alloc: Global, source: &str, fault: &Fault) -> Result<Option<ParseEr
 fn lexical_error_of(
     alloc: Global,
     source: &str,
-    fault: &Fault,
+    error: &Error,
 ) -> Result<Option<LexerError>, AllocError>
-    ensures exact { (error : kinds.LexicalError) (at : Place) → Breaks (chars source.now) error at
-        → fault.now ≡ written_fault (chars source.now) (lexical_fault error at)
-        → IfOk result (λ made. MatchOption made ⊥ (λ it. view_lexer_error it ≡ error)) }
-    ensures words { IfOk result (λ made. MatchOption made (¬ HasLexicalWords source.now fault.now)
-        (λ _. HasLexicalWords source.now fault.now)) }
-    ensures memory { IfErr result (λ _. HasLexicalWords source.now fault.now) }
+    ensures exact { (lexical : kinds.LexicalError) (at : Place) → Breaks (chars source.now) lexical at
+        → error.now ≡ written_error (chars source.now) (lexical_fault lexical at)
+        → IfOk result (λ made. MatchOption made ⊥ (λ it. view_lexer_error it ≡ lexical)) }
+    ensures words { IfOk result (λ made. MatchOption made (¬ HasLexicalWords source.now error.now)
+        (λ _. HasLexicalWords source.now error.now)) }
+    ensures memory { IfErr result (λ _. HasLexicalWords source.now error.now) }
 {
-    match fault.detail {
-        UNKNOWN_CHARACTER => Ok(named(fault).map(LexerError::UnknownCharacter)),
-        UNEXPECTED_CHARACTER => Ok(named(fault).map(LexerError::UnexpectedCharacter)),
+    match error.detail {
+        UNKNOWN_CHARACTER => Ok(named(error).map(LexerError::UnknownCharacter)),
+        UNEXPECTED_CHARACTER => Ok(named(error).map(LexerError::UnexpectedCharacter)),
         UNTERMINATED_STRING => Ok(Some(LexerError::UnterminatedString)),
-        UNKNOWN_CHARACTER_IN_STRING => Ok(named(fault).map(LexerError::UnknownCharacterInString)),
-        UNKNOWN_ESCAPE => match text_shown(source, fault) {
+        UNKNOWN_CHARACTER_IN_STRING => Ok(named(error).map(LexerError::UnknownCharacterInString)),
+        UNKNOWN_ESCAPE => match text_shown(source, error) {
             Some(escape) => Ok(Some(LexerError::UnknownEscapeSequence(String::from_str(
                 alloc, escape,
             )?))),
@@ -114,19 +118,19 @@ fn lexical_error_of(
     }
 }
 
-// The character that a fault names.
-fn named(fault: &Fault) -> Option<char>
-    ensures { SomeIff result (IsScalar fault.now.character) fault.now.character }
+// The character that an error names.
+fn named(error: &Error) -> Option<char>
+    ensures { SomeIff result (IsScalar error.now.character) error.now.character }
 {
-    char::from_u32(fault.character)
+    char::from_u32(error.character)
 }
 
-// The text of the source that a fault shows, where its bytes are one.
-fn text_shown<'s>(source: &'s str, fault: &Fault) -> Option<&'s str>
-    ensures { MatchOption result (¬ ShowsText source.now fault.now)
-        (λ text. ShowsText source.now fault.now × (text.now ≡ shown_bytes source.now fault.now)) }
+// The text of the source that an error shows, where its bytes are one.
+fn text_shown<'s>(source: &'s str, error: &Error) -> Option<&'s str>
+    ensures { MatchOption result (¬ ShowsText source.now error.now)
+        (λ text. ShowsText source.now error.now × (text.now ≡ shown_bytes source.now error.now)) }
 {
-    let (start, end) = (fault.text_start as usize, fault.text_end as usize);
+    let (start, end) = (error.text_start as usize, error.text_end as usize);
     if end < start || source.len() < end {
         return None;
     }

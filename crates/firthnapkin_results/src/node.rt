@@ -10,13 +10,13 @@ ghost use Rattle.juniper_nodes.specs.NodeTexts.{text_of_node};
 ghost use Rattle.juniper_nodes.specs.NodeViews.{view_label, view_node};
 ghost use Rattle.firthnapkin_results.specs.Fits.{NodeFits};
 ghost use Rattle.firthnapkin_results.specs.ByteTables.{IsTableOf};
-ghost use Rattle.firthnapkin_results.specs.Places.{bytes_before};
+ghost use Rattle.firthnapkin_results.specs.Positions.{bytes_before};
 ghost use Rattle.firthnapkin_results.specs.Nodes.{kind_number, node_number, content_number, byte_count, word_extent, span_extent, no_extent, unnamed_extent, node_extent, scalar_value, condition_value, node_value, written_node};
 ghost use Rattle.firthnapkin_results.specs.Scalars.{content_of};
 
 use crate::byte_table::ByteTable;
 use crate::form::ScalarForm;
-use crate::place::{Place, in_word, place_at};
+use crate::position::{Position, in_word, position_at};
 use juniper_nodes::{Label, NodeKind};
 use juniper_tokens::Spanning;
 
@@ -29,8 +29,8 @@ pub struct Node {
     pub kind: u32,
     /// The number of its descendants, which follow it.
     pub descendants: u32,
-    pub start: Place,
-    pub end: Place,
+    pub start: Position,
+    pub end: Position,
     /// The first byte of the source that names it, and the one after the last.
     pub name_start: u32,
     pub name_end: u32,
@@ -70,8 +70,8 @@ pub(crate) fn written_node(
     ensures { (source text : List ℕ) → let seen = view_node (content_of text) node.now in IsTableOf source table.now
         → NodeFits at seen → length ≡ byte_count (text_of_node seen) → result ≡ written_node source at seen }
 {
-    let start = place_at(table, node.span.start);
-    let end = place_at(table, node.span.end);
+    let start = position_at(table, node.span.start);
+    let end = position_at(table, node.span.end);
     let name = extent_of(
         table,
         node,

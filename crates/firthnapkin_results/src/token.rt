@@ -6,7 +6,7 @@ ghost use Rattle.firthnapkin_results.specs.Fits.{SpanFits};
 ghost use Rattle.firthnapkin_results.specs.Tokens.{kind_number, quote_count, token_at};
 
 use crate::byte_table::ByteTable;
-use crate::place::{Place, place_at};
+use crate::position::{Position, position_at};
 use juniper_tokens::{Kind, Span};
 
 /// A token of a source.
@@ -17,8 +17,8 @@ pub struct Token {
     pub kind: u32,
     /// The number of quotes on each side of its text.
     pub quotes: u32,
-    pub start: Place,
-    pub end: Place,
+    pub start: Position,
+    pub end: Position,
 }
 
 /// The token of this kind with this span.
@@ -29,8 +29,8 @@ pub(crate) fn token_at(table: &ByteTable, kind: Kind, span: &Span) -> Token
     Token {
         kind: kind_number(kind),
         quotes: quote_count(kind),
-        start: place_at(table, span.start),
-        end: place_at(table, span.end),
+        start: position_at(table, span.start),
+        end: position_at(table, span.end),
     }
 }
 

@@ -4,7 +4,7 @@ ghost use Rattle.firthnapkin_results.specs.CutTokens.{ReturnsTokens};
 
 use crate::buffer::put;
 use crate::byte_table::ByteTable;
-use crate::fault::{Fault, lexical_fault, many_fault};
+use crate::error::{Error, lexical_error, too_many_tokens_error};
 use crate::source::{Unread, text_of};
 use crate::token::{Token, token_at};
 use juniper_tokens::{Kind, LexFailure, Lexer};
@@ -16,9 +16,9 @@ pub enum Written {
     /// All of them, the end among them: so many.
     Tokens(usize),
     /// Those before the first lexical error, so many, and the error.
-    Refused(usize, Fault),
-    /// As many as the limit; the fault is at the first token past it.
-    Many(Fault),
+    Refused(usize, Error),
+    /// As many as the limit; the error is at the first token past it.
+    Many(Error),
 }
 
 /// Puts the tokens of a source into a buffer, as many as it has capacity for, and returns how many there are. Stops at
@@ -56,13 +56,13 @@ fn tokens_of_text(
                     return Ok(Written::Tokens(count + 1));
                 }
                 if count == most as usize {
-                    return Ok(Written::Many(many_fault(&table, token.span)));
+                    return Ok(Written::Many(too_many_tokens_error(&table, token.span)));
                 }
                 put(buffer, count, token_at(&table, kind, &token.span));
                 count += 1;
             }
-            Some(Err(LexFailure::Fault(fault))) => {
-                let found = lexical_fault(&table, &fault.item, fault.span.start);
+            Some(Err(LexFailure::Fault(error))) => {
+                let found = lexical_error(&table, &error.item, error.span.start);
                 return Ok(Written::Refused(count, found));
             }
             Some(Err(LexFailure::Memory)) => return Err(Unread::OutOfMemory),

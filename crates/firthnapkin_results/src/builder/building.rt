@@ -262,8 +262,7 @@ impl<'b, O: Outliner<'b>> Builder<SourceScalar> for Building<'_, 'b, O> {
             → Adds first.nodes self.new.nodes
             (directive_nodes (record {
               item = record { name = view_word name.now; arguments = xs };
-              span = view_span
-                  span;
+              span = view_span span;
             })) × (first.outlines ≡ self.new.outlines) }
     {
         self.nodes

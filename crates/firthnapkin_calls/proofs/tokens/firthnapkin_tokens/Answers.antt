@@ -1,5 +1,5 @@
 use Rattle.std.proofs.Common.{refl, arith}
-use Rattle.firthnapkin_results.proofs.Public.{few_tokens, few_before, few_in_limit, fault_after, tells_text}
+use Rattle.firthnapkin_results.proofs.Public.{few_tokens, few_before, few_in_limit, error_after, tells_text}
 use Rattle.firthnapkin_calls.proofs.tokens.firthnapkin_tokens.Goals as goal
 
 pub returns-then-count-tokens-clause-bounds : goal.returns-then-count-tokens-clause-bounds
@@ -15,7 +15,7 @@ returns-else-count-tokens-clause-bounds c =
 pub returns-in-Ok-Refused-clause-refused : goal.returns-in-Ok-Refused-clause-refused
 returns-in-Ok-Refused-clause-refused c = λ _.
     let it = (rw c.in-Ok-Refused.field-0-is at c.in-Ok-Refused.ensures).1 in
-    (it.0, it.1, it.2, it.3, it.4, it.5, it.6, fault_after c.args.source.now it.0 it.1 it.2 it.3, it.7)
+    (it.0, it.1, it.2, it.3, it.4, it.5, it.6, error_after c.args.source.now it.0 it.1 it.2 it.3, it.7)
 
 pub returns-in-Ok-Refused-clause-bounds : goal.returns-in-Ok-Refused-clause-bounds
 returns-in-Ok-Refused-clause-bounds c =

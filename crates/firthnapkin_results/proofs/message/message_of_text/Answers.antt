@@ -6,13 +6,13 @@ use Rattle.firthnapkin_results.proofs.message.message_of_text.Goals as goal
 
 pub returns-in_ok-format-in-Some-clause-message : goal.returns-in_ok-format-in-Some-clause-message
 returns-in_ok-format-in-Some-clause-message c =
-    let e = view_error c.in-Some.error in
-    let exact = rw c.in-Some.is at c.in_ok-error.ensures.exact in
-    let own = rw c.in-Some.is at c.in_ok-error.ensures.own in
-    let are = are_words c.args.text.now c.args.fault.now e
-    (λ h. omega (arith, h, c.if-fault-eq-TOO_DEEP.false)) (λ h. omega (arith, h, c.if-fault-eq-TOO_MANY_TOKENS.false))
-    (λ h. omega (arith, h, c.if-fault-eq-UNKNOWN_FRAGMENT.false))
-    (λ h. omega (arith, h, c.if-fault-eq-FRAGMENT_CYCLE.false)) exact in
+    let e = view_error c.in-Some.parse_error in
+    let exact = rw c.in-Some.is at c.in_ok-parse_error.ensures.exact in
+    let own = rw c.in-Some.is at c.in_ok-parse_error.ensures.own in
+    let are = are_words c.args.text.now c.args.error.now e
+    (λ h. omega (arith, h, c.if-error-eq-TOO_DEEP.false)) (λ h. omega (arith, h, c.if-error-eq-TOO_MANY_TOKENS.false))
+    (λ h. omega (arith, h, c.if-error-eq-UNKNOWN_FRAGMENT.false))
+    (λ h. omega (arith, h, c.if-error-eq-FRAGMENT_CYCLE.false)) exact in
     let same : string_bytes c.in_ok-format-in-Some.field-0 ≡ encode_utf8_all (error_text e) =
     c.in_ok-format-in-Some.ensures.ok in (
       c.requires,
@@ -27,10 +27,10 @@ returns-in-None-clause-message c = (
   c.requires,
   (
     c.utf8.text,
-    is_no_error c.args.text.now c.args.fault.now (λ h. omega (arith, h, c.if-fault-eq-TOO_DEEP.false))
-        (λ h. omega (arith, h, c.if-fault-eq-TOO_MANY_TOKENS.false))
-        (λ h. omega (arith, h, c.if-fault-eq-UNKNOWN_FRAGMENT.false))
-        (λ h. omega (arith, h, c.if-fault-eq-FRAGMENT_CYCLE.false))
-        (rw c.in-None.is at c.in_ok-error.ensures.exact),
+    is_no_error c.args.text.now c.args.error.now (λ h. omega (arith, h, c.if-error-eq-TOO_DEEP.false))
+        (λ h. omega (arith, h, c.if-error-eq-TOO_MANY_TOKENS.false))
+        (λ h. omega (arith, h, c.if-error-eq-UNKNOWN_FRAGMENT.false))
+        (λ h. omega (arith, h, c.if-error-eq-FRAGMENT_CYCLE.false))
+        (rw c.in-None.is at c.in_ok-parse_error.ensures.exact),
   ),
 )

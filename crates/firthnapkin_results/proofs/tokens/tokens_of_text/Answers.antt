@@ -7,11 +7,11 @@ use Rattle.juniper_tokens.specs.Lexing.{LexerState, passed, ahead}
 use Rattle.juniper_tokens.specs.Spans.{view_span}
 use Rattle.juniper_tokens.specs.Tokens.{token_kind, view_token}
 use Rattle.firthnapkin_results.specs.declared.token.Token.{Token}
-use Rattle.firthnapkin_results.specs.Tokens.{token_at, written_token, HasFaultAfter}
+use Rattle.firthnapkin_results.specs.Tokens.{token_at, written_token, HasErrorAfter}
 use Rattle.firthnapkin_results.proofs.Fitting.{few_characters, broken_fits}
-use Rattle.firthnapkin_results.proofs.Lexed.{given_token, given_fault, goes_on}
+use Rattle.firthnapkin_results.proofs.Lexed.{given_token, given_error, goes_on}
 use Rattle.firthnapkin_results.proofs.TokenCounts.{token_fits}
-use Rattle.firthnapkin_results.proofs.HeldTokens.{Held, held_first, all_there, stands_here, breaks_here, held_more, held_many, held_all, held_written, fault_after, none_held}
+use Rattle.firthnapkin_results.proofs.HeldTokens.{Held, held_first, all_there, stands_here, breaks_here, held_more, held_many, held_all, held_written, error_after, none_held}
 use Rattle.firthnapkin_results.proofs.tokens.tokens_of_text.Goals as goal
 
 within_text : (text : List ℕ) (old buffer : List Token) (s : LexerState) (count : ℕ) (h : Held text old s buffer count)
@@ -35,7 +35,7 @@ returns-then-count-most c =
     let fits = token_fits _ _ x _ _ stands span refl (within_text text _ _ l.lexer l.count held few) in
     let all : l.count ≡ c.args.most = omega (arith, c.if-count-most.true) in
     let more = held_many text _ _ l.lexer l.count held c.args.most x next span all stands no_end refl in
-    (c.requires, c.utf8.text, (span, more.0, more.1, c.many_fault.ensures text c.in_ok-table.ensures fits))
+    (c.requires, c.utf8.text, (span, more.0, more.1, c.too_many_tokens_error.ensures text c.in_ok-table.ensures fits))
 
 pub loop-token-preserved : goal.loop-token-preserved
 loop-token-preserved c =
@@ -95,10 +95,10 @@ returns-in-Some-Err-Fault c =
     let text = chars c.args.text.now in
     let held = l.invariant.held in
     let here = c.in-Some-Err-Fault in
-    let error = view_lexer_error here.fault.item in
-    let at = here.fault.span.start in
-    let breaks = given_fault _ _ _ here.ensures.steps.2 here.fault here.field-0-0 here.field-0-is here.field-0-0-is in
-    let met : HasFaultAfter c.args.text.now held.tokens error at = record {
+    let error = view_lexer_error here.error.item in
+    let at = here.error.span.start in
+    let breaks = given_error _ _ _ here.ensures.steps.2 here.error here.field-0-0 here.field-0-is here.field-0-0-is in
+    let met : HasErrorAfter c.args.text.now held.tokens error at = record {
       utf8 = c.utf8.text;
       done = passed text l.lexer.index;
       after = ahead text l.lexer.index;
@@ -106,7 +106,7 @@ returns-in-Some-Err-Fault c =
       breaks = breaks_here text _ _ l.lexer l.count held error at breaks;
     } in
     let few = few_characters c.args.text.now c.utf8.text c.requires in
-    let fits = broken_fits text error at few (fault_after c.args.text.now held.tokens error at met) in (
+    let fits = broken_fits text error at few (error_after c.args.text.now held.tokens error at met) in (
       c.requires,
       (
         held.tokens,
@@ -116,7 +116,7 @@ returns-in-Some-Err-Fault c =
         omega (arith, held.count_is, l.invariant.few),
         held.fills,
         held.count_is,
-        (rw here.field-0-0-is at c.lexical_fault-found.ensures text c.in_ok-table.ensures) fits,
+        (rw here.field-0-0-is at c.lexical_error-found.ensures text c.in_ok-table.ensures) fits,
       ),
     )
 

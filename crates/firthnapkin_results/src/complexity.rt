@@ -7,15 +7,15 @@ ghost use Rattle.juniper_outlines.specs.Definitions.{own_complexities};
 ghost use Rattle.juniper_values.specs.Scalar.{Content};
 ghost use Rattle.firthnapkin_results.specs.Builders.{with_written};
 ghost use Rattle.firthnapkin_results.specs.Buildings.{AreMarked};
-ghost use Rattle.firthnapkin_results.specs.Weighed.{node_at, numbers_of, saturated};
+ghost use Rattle.firthnapkin_results.specs.Complexities.{node_at, complexity_of, saturated};
 
-use crate::place::in_word;
+use crate::position::in_word;
 use juniper_complexity::{DefinitionOutline, OperationComplexity};
 
 /// The complexity of an operation. Each number saturates: past the largest word it is that.
 #[repr(C)]
 #[derive(Clone, Copy)]
-pub struct Numbers {
+pub struct Complexity {
     /// The index of the operation's node.
     pub definition: u32,
     pub fields: u32,
@@ -26,29 +26,29 @@ pub struct Numbers {
 }
 
 /// Writes complexities from the buffer's beginning on, as far as they fit.
-pub(crate) fn write_numbers(
+pub(crate) fn write_complexities(
     definitions: &[DefinitionOutline<'_>],
     found: &[OperationComplexity],
-    buffer: &mut [Numbers],
+    buffer: &mut [Complexity],
 )
     ensures { (tree : List (Definition Content)) → AreMarked 0 definitions.now tree
         → length (document_nodes tree) < 2 ^ 32 → OperationsHave tree 0 tree found.now
-        → buffer.new ≡ with_written buffer.old 0 (map (numbers_of tree) found.now) }
+        → buffer.new ≡ with_written buffer.old 0 (map (complexity_of tree) found.now) }
 {
     for i in 0..found.len() {
-        put(buffer, i, numbers_of(definitions, &found[i]));
+        put(buffer, i, complexity_of(definitions, &found[i]));
     }
 }
 
-/// Writes the complexities of operations none of which has a spread, as `write_numbers` writes complexities. Returns
-/// how many they are.
-pub(crate) fn write_own_numbers(
+/// Writes the complexities of operations none of which has a spread, as `write_complexities` does. Returns how many
+/// they are.
+pub(crate) fn write_own_complexities(
     definitions: &[DefinitionOutline<'_>],
-    buffer: &mut [Numbers],
+    buffer: &mut [Complexity],
 ) -> usize
     ensures written { (tree : List (Definition Content)) → AreMarked 0 definitions.now tree
         → length (document_nodes tree) < 2 ^ 32
-        → buffer.new ≡ with_written buffer.old 0 (map (numbers_of tree) (own_complexities 0 definitions.now)) }
+        → buffer.new ≡ with_written buffer.old 0 (map (complexity_of tree) (own_complexities 0 definitions.now)) }
     ensures count { result ≡ length (own_complexities 0 definitions.now) }
 {
     let mut count = 0;
@@ -60,7 +60,7 @@ pub(crate) fn write_own_numbers(
                     definition: i,
                     complexity,
                 };
-                put(buffer, count, numbers_of(definitions, &own));
+                put(buffer, count, complexity_of(definitions, &own));
                 count += 1;
             }
         }
@@ -68,21 +68,21 @@ pub(crate) fn write_own_numbers(
     count
 }
 
-fn put(buffer: &mut [Numbers], index: usize, numbers: Numbers)
-    ensures { buffer.new ≡ set buffer.old index numbers }
+fn put(buffer: &mut [Complexity], index: usize, complexity: Complexity)
+    ensures { buffer.new ≡ set buffer.old index complexity }
 {
     if index < buffer.len() {
-        buffer[index] = numbers;
+        buffer[index] = complexity;
     }
 }
 
-fn numbers_of(definitions: &[DefinitionOutline<'_>], found: &OperationComplexity) -> Numbers
+fn complexity_of(definitions: &[DefinitionOutline<'_>], found: &OperationComplexity) -> Complexity
     ensures { (tree : List (Definition Content)) → AreMarked 0 definitions.now tree
         → length (document_nodes tree) < 2 ^ 32 → found.now.definition < length tree
-        → result ≡ numbers_of tree found.now }
+        → result ≡ complexity_of tree found.now }
 {
     let complexity = found.complexity;
-    Numbers {
+    Complexity {
         definition: node_at(definitions, found.definition),
         fields: saturated(complexity.fields),
         aliases: saturated(complexity.aliases),

@@ -1,17 +1,17 @@
-//! Places of a source, as C gets them.
+//! Positions of a source, as C gets them.
 ghost use Rattle.std.specs.Prelude.{◌≡◌, ℕ, ◌<◌, ◌^◌, List};
-ghost use Rattle.firthnapkin_results.specs.Places.{written_place};
-ghost use Rattle.firthnapkin_results.specs.Fits.{PlaceFits};
+ghost use Rattle.firthnapkin_results.specs.Positions.{written_position};
+ghost use Rattle.firthnapkin_results.specs.Fits.{PositionFits};
 ghost use Rattle.firthnapkin_results.specs.ByteTables.{IsTableOf};
 
 use crate::byte_table::ByteTable;
 use crate::status::TOO_LONG_FROM;
 use juniper_tokens::SourcePosition;
 
-/// A place of the source: the number of characters, line feeds, characters of its line and bytes before it.
+/// A position of the source: the number of characters, line feeds, characters of its line and bytes before it.
 #[repr(C)]
 #[derive(Clone, Copy)]
-pub struct Place {
+pub struct Position {
     pub index: u32,
     pub line: u32,
     pub column: u32,
@@ -19,12 +19,12 @@ pub struct Place {
 }
 
 #[inline(always)]
-pub(crate) fn place_at(table: &ByteTable, position: SourcePosition) -> Place
-    ensures { (source : List ℕ) → IsTableOf source table.now → PlaceFits position
-        → result ≡ written_place source position }
+pub(crate) fn position_at(table: &ByteTable, position: SourcePosition) -> Position
+    ensures { (source : List ℕ) → IsTableOf source table.now → PositionFits position
+        → result ≡ written_position source position }
 {
     let index = in_word(position.index());
-    Place {
+    Position {
         index,
         line: in_word(position.line()),
         column: in_word(position.column()),

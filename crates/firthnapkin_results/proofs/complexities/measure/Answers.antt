@@ -9,13 +9,13 @@ use Rattle.juniper_complexity.proofs.Public.{own_mean}
 use Rattle.juniper_tokens.specs.Spans.{view_span}
 use Rattle.juniper_values.specs.Scalar.{Content}
 use Rattle.firthnapkin_results.specs.Answers.{HasDocument, Fills}
-use Rattle.firthnapkin_results.specs.Weighed.{numbers_of}
+use Rattle.firthnapkin_results.specs.Complexities.{complexity_of}
 use Rattle.firthnapkin_results.specs.declared.limits.Limits.{Limits}
 use Rattle.firthnapkin_results.proofs.Bounds.{within_source, written-length}
 use Rattle.firthnapkin_results.proofs.Fitting.{document_nodes_fit}
 use Rattle.firthnapkin_results.proofs.SpreadSpans.{first_fits}
 use Rattle.firthnapkin_results.proofs.Writing.{fills_all}
-use Rattle.firthnapkin_results.proofs.weighed.weigh.Goals as goal
+use Rattle.firthnapkin_results.proofs.complexities.measure.Goals as goal
 
 few_nodes : (text : List ℕ) (limits : Limits) (tree : List (Definition Content)) → length text < 2 ^ 32
     → HasDocument text limits tree → length (document_nodes tree) < 2 ^ 32
@@ -29,17 +29,18 @@ returns-then-have_no_spreads c text limits tree on nn ot nt short table nodes ga
     let have = own_mean c.args.definitions.now tree gathered
     (c.have_no_spreads.ensures.yes c.if-have_no_spreads.true) in
     let few = few_nodes text limits tree short nodes.document in
-    let numbers = map (numbers_of tree) own in (
+    let measured = map (complexity_of tree) own in (
       short,
       (
         tree,
         nodes,
         (
-          numbers,
+          measured,
           record { complexities = own; operations = have; are = refl },
-          subst (Fills numbers c.args.complexities.now) (sym (c.write_own_numbers-count.ensures.written tree marks few))
-              (fills_all numbers c.args.complexities.now),
-          c.write_own_numbers-count.ensures.count ∙ sym (length-map own (numbers_of tree)),
+          subst (Fills measured c.args.complexities.now)
+              (sym (c.write_own_complexities-count.ensures.written tree marks few))
+              (fills_all measured c.args.complexities.now),
+          c.write_own_complexities-count.ensures.count ∙ sym (length-map own (complexity_of tree)),
         ),
       ),
     )
@@ -49,18 +50,18 @@ returns-in-Ok c text limits tree on nn ot nt short table nodes gathered marks =
     let found = c.in-Ok.found.items in
     let have = c.in-Ok.ensures.complexities tree gathered in
     let few = few_nodes text limits tree short nodes.document in
-    let numbers = map (numbers_of tree) found in
+    let measured = map (complexity_of tree) found in
     let written = rw c.deref.ensures.value at
-    (c.write_numbers.ensures tree marks few (rw c.deref.ensures.value have)) in (
+    (c.write_complexities.ensures tree marks few (rw c.deref.ensures.value have)) in (
       short,
       (
         tree,
         nodes,
         (
-          numbers,
+          measured,
           record { complexities = found; operations = have; are = refl },
-          subst (Fills numbers c.args.complexities.now) (sym written) (fills_all numbers c.args.complexities.now),
-          omega (arith, c.len.ensures, length-map found (numbers_of tree)),
+          subst (Fills measured c.args.complexities.now) (sym written) (fills_all measured c.args.complexities.now),
+          omega (arith, c.len.ensures, length-map found (complexity_of tree)),
         ),
       ),
     )
@@ -78,8 +79,8 @@ returns-in-Err-Unknown c text limits tree on nn ot nt short table nodes gathered
         nodes,
         (
           span,
-          record { definition = first.0; fault = first.1 },
-          c.unknown_fault.ensures (chars text) table fits,
+          record { definition = first.0; error = first.1 },
+          c.unknown_fragment_error.ensures (chars text) table fits,
           refl,
         ),
       ),
@@ -98,8 +99,8 @@ returns-in-Err-Cycle c text limits tree on nn ot nt short table nodes gathered m
         nodes,
         (
           span,
-          record { definition = first.0; fault = first.1 },
-          c.cycle_fault.ensures (chars text) table fits,
+          record { definition = first.0; error = first.1 },
+          c.fragment_cycle_error.ensures (chars text) table fits,
           refl,
         ),
       ),

@@ -5,12 +5,12 @@ use Rattle.juniper_outlines.specs.Definitions.{own_complexities}
 use Rattle.juniper_outlines.specs.declared.operations.OperationComplexity.{OperationComplexity}
 use Rattle.juniper_outlines.proofs.Public.{one_own_more}
 use Rattle.firthnapkin_results.specs.Builders.{with_written}
-use Rattle.firthnapkin_results.specs.Weighed.{numbers_of}
-use Rattle.firthnapkin_results.specs.declared.numbers.Numbers.{Numbers}
-use Rattle.firthnapkin_results.proofs.OperationNumbers.{as_many_marks}
+use Rattle.firthnapkin_results.specs.Complexities.{complexity_of}
+use Rattle.firthnapkin_results.specs.declared.complexity.Complexity.{Complexity}
+use Rattle.firthnapkin_results.proofs.OperationComplexities.{as_many_marks}
 use Rattle.firthnapkin_results.proofs.Writing.{written_append}
-use Rattle.firthnapkin_results.proofs.numbers.write_own_numbers.Goals as goal
-use Rattle.firthnapkin_results.proofs.numbers.write_own_numbers.Goals.{in-None, in-Some}
+use Rattle.firthnapkin_results.proofs.complexity.write_own_complexities.Goals as goal
+use Rattle.firthnapkin_results.proofs.complexity.write_own_complexities.Goals.{in-None, in-Some}
 
 pub loop-i-preserved : goal.loop-i-preserved
 loop-i-preserved c =
@@ -34,13 +34,13 @@ loop-i-preserved c =
           rw (w.buffer-is, w.count-is) (record {
             written = λ tree marks few.
                 let many = as_many_marks 0 os tree marks in
-                let numbers = w.numbers_of.ensures tree marks few (omega (arith, many)) in
-                let f = numbers_of tree in
+                let complexity = w.complexity_of.ensures tree marks few (omega (arith, many)) in
+                let f = complexity_of tree in
                 let ys = map f so_far in
                 let count : l.count ≡ 0 + length ys = omega (arith, l.invariant.counted, length-map so_far f) in
                 w.put.ensures
-                ∙ (ap₂ (λ (b : List Numbers) (n : Numbers). set b l.count n) (l.invariant.written tree marks few)
-                numbers
+                ∙ (ap₂ (λ (b : List Complexity) (n : Complexity). set b l.count n) (l.invariant.written tree marks few)
+                complexity
                 ∙ (ap (λ (k : ℕ). set (with_written old 0 ys) k (f x)) count
                 ∙ (sym (written_append old 0 ys (f x ∷ []))
                 ∙ ap (with_written old 0) (sym (ap (map f) longer ∙ map-append f so_far (x ∷ []))))));

@@ -2,8 +2,8 @@ use Rattle.std.proofs.Common.{◌∙◌, ap, sym, refl, arith}
 use Rattle.std.proofs.lemmas.Option.{slice_get_read}
 use Rattle.graphql_nodes.specs.Nodes.{document_nodes}
 use Rattle.juniper_outlines.specs.declared.outline.DefinitionOutline.{DefinitionOutline}
-use Rattle.firthnapkin_results.proofs.OperationNumbers.{as_many_marks, few_before, mark_at}
-use Rattle.firthnapkin_results.proofs.numbers.node_at.Goals as goal
+use Rattle.firthnapkin_results.proofs.OperationComplexities.{as_many_marks, few_before, mark_at}
+use Rattle.firthnapkin_results.proofs.complexity.node_at.Goals as goal
 
 pub returns-then-at-definitions : goal.returns-then-at-definitions
 unfolding document_nodes

@@ -4,7 +4,7 @@ use Rattle.std.specs.Str.{chars}
 use Rattle.std.proofs.lemmas.Iterator.{YieldsList-from_chars}
 use Rattle.std.proofs.lemmas.Iterator.Consumers.{count_from_yields_List}
 use Rattle.std.proofs.lemmas.Str.{encodes-chars, length-le-encodes}
-use Rattle.firthnapkin_results.proofs.fault.shown_of_lexical.Goals as goal
+use Rattle.firthnapkin_results.proofs.error.shown_of_lexical.Goals as goal
 
 pub returns-in-UnknownEscapeSequence : goal.returns-in-UnknownEscapeSequence
 returns-in-UnknownEscapeSequence c = λ l.

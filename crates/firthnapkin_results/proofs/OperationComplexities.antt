@@ -1,4 +1,4 @@
--- The numbers of operations, and the nodes of their definitions.
+-- The complexities of operations, and the nodes of their definitions.
 use Rattle.std.proofs.Common.{◌≡◌, ◌+◌, ◌<◌, ◌≤◌, ℕ, zero, suc, List, [], ◌∷◌, length, take, refl, ap, arith}
 use Rattle.std.proofs.Common.{length-append, ◌∙◌, Some}
 use Rattle.std.specs.List.{slice_get}
@@ -35,10 +35,11 @@ few_operations document i (d ∷ ds) cs (fragment_first e k) =
 few_operations document i (d ∷ ds) (c ∷ cs) (operation_first x e h k) =
     let n = few_operations document (suc i) ds cs k in omega (arith, n)
 
-pub few_numbers : (ds : List (Definition Content)) (cs : List OperationComplexity) → OperationsHave ds 0 ds cs
+pub few_complexities : (ds : List (Definition Content)) (cs : List OperationComplexity) → OperationsHave ds 0 ds cs
     → length cs ≤ length (document_nodes ds)
 unfolding document_nodes
-few_numbers ds cs h = let one = few_operations ds 0 ds cs h in let two = few_definitions ds in omega (arith, one, two)
+few_complexities ds cs h =
+    let one = few_operations ds 0 ds cs h in let two = few_definitions ds in omega (arith, one, two)
 
 -- an operation is one of the definitions
 pub in_document : (document : List (Definition Content)) (i : ℕ) (ds : List (Definition Content))

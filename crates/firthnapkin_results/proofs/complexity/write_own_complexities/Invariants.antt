@@ -1,4 +1,4 @@
--- The numbers so far are in the buffer.
+-- The complexities so far are in the buffer.
 use Rattle.std.proofs.Common.{◌≡◌, ◌^◌, ◌<◌, ◌≤◌, List, length, map, take}
 use Rattle.graphql_grammar.specs.Tree.{Definition}
 use Rattle.graphql_nodes.specs.Nodes.{document_nodes}
@@ -6,14 +6,14 @@ use Rattle.juniper_outlines.specs.Definitions.{own_complexities}
 use Rattle.juniper_values.specs.Scalar.{Content}
 use Rattle.firthnapkin_results.specs.Buildings.{AreMarked}
 use Rattle.firthnapkin_results.specs.Builders.{with_written}
-use Rattle.firthnapkin_results.specs.Weighed.{numbers_of}
-use Rattle.firthnapkin_results.proofs.numbers.write_own_numbers.Given as goal
+use Rattle.firthnapkin_results.specs.Complexities.{complexity_of}
+use Rattle.firthnapkin_results.proofs.complexity.write_own_complexities.Given as goal
 
 abbrev pub invariant-loop-i : goal.invariant-loop-i
 invariant-loop-i l = record {
   written : (tree : List (Definition Content)) → AreMarked 0 l.definitions tree → length (document_nodes tree) < 2 ^ 32
       → l.buffer ≡ with_written l.initial.buffer 0
-      (map (numbers_of tree) (own_complexities 0 (take l.i l.definitions)));
+      (map (complexity_of tree) (own_complexities 0 (take l.i l.definitions)));
   counted : l.count ≡ length (own_complexities 0 (take l.i l.definitions));
   few : l.count ≤ l.i;
 }

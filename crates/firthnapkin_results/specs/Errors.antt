@@ -5,11 +5,10 @@ use Rattle.graphql_lexical.specs.Kinds.{LexicalError, UnknownCharacter, Unexpect
 use Rattle.graphql_lexical.specs.Kinds.{UnknownCharacterInString, UnknownEscapeSequence, UnexpectedEndOfFile}
 use Rattle.graphql_lexical.specs.Kinds.{InvalidNumber}
 use Rattle.juniper_tokens.specs.Errors as errors
-use Rattle.juniper_tokens.specs.Errors.{Error}
-use Rattle.firthnapkin_results.specs.Places.{bytes_before, written_place}
-use Rattle.firthnapkin_results.specs.declared.fault.Fault.{Fault}
-use Rattle.firthnapkin_results.specs.declared.fault.Reason.{Reason}
-use Rattle.firthnapkin_results.specs.declared.fault.Shown.{Shown}
+use Rattle.firthnapkin_results.specs.Positions.{bytes_before, written_position}
+use Rattle.firthnapkin_results.specs.declared.error.Error.{Error}
+use Rattle.firthnapkin_results.specs.declared.error.Reason.{Reason}
+use Rattle.firthnapkin_results.specs.declared.error.Shown.{Shown}
 
 abbrev pub because : ℕ → ℕ → ℕ → Reason
 because kind detail character = record { kind = kind; detail = detail; character = character }
@@ -24,7 +23,7 @@ lexical_reason (UnknownEscapeSequence t) = because 2 5 0
 lexical_reason UnexpectedEndOfFile = because 2 6 0
 lexical_reason InvalidNumber = because 2 7 0
 
-abbrev pub error_reason : Error → Reason
+abbrev pub error_reason : errors.Error → Reason
 error_reason (errors.UnexpectedToken t) = because 0 0 0
 error_reason errors.UnexpectedEndOfFile = because 1 0 0
 error_reason (errors.Lexical e) = lexical_reason e
@@ -61,7 +60,7 @@ shown_of_lexical UnexpectedEndOfFile at = nothing_at at
 shown_of_lexical InvalidNumber at = nothing_at at
 
 -- of an unexpected token all of it
-abbrev pub shown_of_error : Error → Span → Shown
+abbrev pub shown_of_error : errors.Error → Span → Shown
 shown_of_error (errors.UnexpectedToken t) span = record { start = span.start.index; end = span.end.index }
 shown_of_error errors.UnexpectedEndOfFile span = nothing_at span.start.index
 shown_of_error (errors.Lexical e) span = shown_of_lexical e span.start.index
@@ -69,34 +68,34 @@ shown_of_error (errors.ExpectedScalar t) span = nothing_at span.start.index
 
 -- ---- errors
 
-abbrev pub fault_at : List ℕ → Reason → Span → Shown → Fault
-fault_at source reason span shown = record {
+abbrev pub error_at : List ℕ → Reason → Span → Shown → Error
+error_at source reason span shown = record {
   kind = reason.kind;
   detail = reason.detail;
   character = reason.character;
-  start = written_place source span.start;
-  end = written_place source span.end;
+  start = written_position source span.start;
+  end = written_position source span.end;
   text_start = bytes_before source shown.start;
   text_end = bytes_before source shown.end;
 }
 
 -- a refusal
-abbrev pub written_fault : List ℕ → errors.Fault → Fault
-written_fault source fault = fault_at source (error_reason fault.error) fault.span
-    (shown_of_error fault.error fault.span)
+abbrev pub written_error : List ℕ → errors.Fault → Error
+written_error source found = error_at source (error_reason found.error) found.span
+    (shown_of_error found.error found.span)
 
 -- a token that is nested too deep
-abbrev pub deep_fault : List ℕ → Span → Fault
-deep_fault source span = fault_at source deep_reason span (nothing_at span.start.index)
+abbrev pub too_deep_error : List ℕ → Span → Error
+too_deep_error source span = error_at source deep_reason span (nothing_at span.start.index)
 
 -- a token that is one too many
-abbrev pub many_fault : List ℕ → Span → Fault
-many_fault source span = fault_at source many_reason span (nothing_at span.start.index)
+abbrev pub too_many_tokens_error : List ℕ → Span → Error
+too_many_tokens_error source span = error_at source many_reason span (nothing_at span.start.index)
 
 -- a spread that names no fragment
-abbrev pub unknown_fault : List ℕ → Span → Fault
-unknown_fault source span = fault_at source unknown_reason span (nothing_at span.start.index)
+abbrev pub unknown_fragment_error : List ℕ → Span → Error
+unknown_fragment_error source span = error_at source unknown_reason span (nothing_at span.start.index)
 
 -- a spread of a fragment in which it stands
-abbrev pub cycle_fault : List ℕ → Span → Fault
-cycle_fault source span = fault_at source cycle_reason span (nothing_at span.start.index)
+abbrev pub fragment_cycle_error : List ℕ → Span → Error
+fragment_cycle_error source span = error_at source cycle_reason span (nothing_at span.start.index)

@@ -4,11 +4,11 @@ ghost use Rattle.juniper_tokens.specs.Errors.{view_error, view_fault, view_lexer
 ghost use Rattle.juniper_tokens.specs.Spans.{view_span};
 ghost use Rattle.firthnapkin_results.specs.ByteTables.{IsTableOf};
 ghost use Rattle.juniper_parser.specs.Promise.{lexical_fault};
-ghost use Rattle.firthnapkin_results.specs.Fits.{PlaceFits, SpanFits};
-ghost use Rattle.firthnapkin_results.specs.Faults.{lexical_reason, error_reason, shown_of_error, shown_of_lexical, fault_at, written_fault, deep_fault, many_fault, unknown_fault, cycle_fault};
+ghost use Rattle.firthnapkin_results.specs.Fits.{PositionFits, SpanFits};
+ghost use Rattle.firthnapkin_results.specs.Errors.{lexical_reason, error_reason, shown_of_error, shown_of_lexical, error_at, written_error, too_deep_error, too_many_tokens_error, unknown_fragment_error, fragment_cycle_error};
 
 use crate::byte_table::ByteTable;
-use crate::place::{Place, place_at};
+use crate::position::{Position, position_at};
 use juniper_tokens::{LexerError, ParseError, SourcePosition, Span, Spanning};
 
 /// The kinds of errors.
@@ -48,15 +48,15 @@ pub const INVALID_NUMBER: u32 = 7;
 /// Why a source has no tree, and where.
 #[repr(C)]
 #[derive(Clone, Copy)]
-pub struct Fault {
+pub struct Error {
     /// One of the kinds of errors.
     pub kind: u32,
     /// Which lexical error it is; `NO_DETAIL` if the error isn't lexical.
     pub detail: u32,
     /// The character that the lexical error names, or 0.
     pub character: u32,
-    pub start: Place,
-    pub end: Place,
+    pub start: Position,
+    pub end: Position,
     /// The bytes of the source that its words show: of an unexpected token all of it, of an escape that is unknown the
     /// escape. Of any other error both are the start's byte.
     pub text_start: u32,
@@ -78,25 +78,25 @@ struct Shown {
     end: usize,
 }
 
-/// The fault of a source that is refused.
-pub(crate) fn written_fault(table: &ByteTable, fault: &Spanning<ParseError>) -> Fault
-    ensures { (source : List ℕ) → IsTableOf source table.now → SpanFits (view_fault fault.now).span
-        → result ≡ written_fault source (view_fault fault.now) }
+/// The error of a source that is refused.
+pub(crate) fn written_error(table: &ByteTable, error: &Spanning<ParseError>) -> Error
+    ensures { (source : List ℕ) → IsTableOf source table.now → SpanFits (view_fault error.now).span
+        → result ≡ written_error source (view_fault error.now) }
 {
-    fault_at(
+    error_at(
         table,
-        error_reason(&fault.item),
-        &fault.span,
-        shown_of_error(&fault.item, &fault.span),
+        error_reason(&error.item),
+        &error.span,
+        shown_of_error(&error.item, &error.span),
     )
 }
 
-/// The fault of a source with a token that is nested too deep.
-pub(crate) fn deep_fault(table: &ByteTable, span: Span) -> Fault
+/// The error of a source with a token that is nested too deep.
+pub(crate) fn too_deep_error(table: &ByteTable, span: Span) -> Error
     ensures { (source : List ℕ) → IsTableOf source table.now → SpanFits (view_span span)
-        → result ≡ deep_fault source (view_span span) }
+        → result ≡ too_deep_error source (view_span span) }
 {
-    fault_at(
+    error_at(
         table,
         because(TOO_DEEP, NO_DETAIL, 0),
         &span,
@@ -104,12 +104,12 @@ pub(crate) fn deep_fault(table: &ByteTable, span: Span) -> Fault
     )
 }
 
-/// The fault of a source with too many tokens, at the first token past the limit.
-pub(crate) fn many_fault(table: &ByteTable, span: Span) -> Fault
+/// The error of a source with too many tokens, at the first token past the limit.
+pub(crate) fn too_many_tokens_error(table: &ByteTable, span: Span) -> Error
     ensures { (source : List ℕ) → IsTableOf source table.now → SpanFits (view_span span)
-        → result ≡ many_fault source (view_span span) }
+        → result ≡ too_many_tokens_error source (view_span span) }
 {
-    fault_at(
+    error_at(
         table,
         because(TOO_MANY_TOKENS, NO_DETAIL, 0),
         &span,
@@ -117,12 +117,12 @@ pub(crate) fn many_fault(table: &ByteTable, span: Span) -> Fault
     )
 }
 
-/// The fault of a document with a spread that names no fragment.
-pub(crate) fn unknown_fault(table: &ByteTable, span: Span) -> Fault
+/// The error of a document with a spread that names no fragment.
+pub(crate) fn unknown_fragment_error(table: &ByteTable, span: Span) -> Error
     ensures { (source : List ℕ) → IsTableOf source table.now → SpanFits (view_span span)
-        → result ≡ unknown_fault source (view_span span) }
+        → result ≡ unknown_fragment_error source (view_span span) }
 {
-    fault_at(
+    error_at(
         table,
         because(UNKNOWN_FRAGMENT, NO_DETAIL, 0),
         &span,
@@ -130,12 +130,12 @@ pub(crate) fn unknown_fault(table: &ByteTable, span: Span) -> Fault
     )
 }
 
-/// The fault of a document with a spread of a fragment in which it stands.
-pub(crate) fn cycle_fault(table: &ByteTable, span: Span) -> Fault
+/// The error of a document with a spread of a fragment in which it stands.
+pub(crate) fn fragment_cycle_error(table: &ByteTable, span: Span) -> Error
     ensures { (source : List ℕ) → IsTableOf source table.now → SpanFits (view_span span)
-        → result ≡ cycle_fault source (view_span span) }
+        → result ≡ fragment_cycle_error source (view_span span) }
 {
-    fault_at(
+    error_at(
         table,
         because(FRAGMENT_CYCLE, NO_DETAIL, 0),
         &span,
@@ -143,12 +143,12 @@ pub(crate) fn cycle_fault(table: &ByteTable, span: Span) -> Fault
     )
 }
 
-/// The fault of a source with this lexical error there.
-pub(crate) fn lexical_fault(table: &ByteTable, error: &LexerError, at: SourcePosition) -> Fault
-    ensures { (source : List ℕ) → IsTableOf source table.now → PlaceFits at
-        → result ≡ written_fault source (lexical_fault (view_lexer_error error.now) at) }
+/// The error of a source with this lexical error there.
+pub(crate) fn lexical_error(table: &ByteTable, error: &LexerError, at: SourcePosition) -> Error
+    ensures { (source : List ℕ) → IsTableOf source table.now → PositionFits at
+        → result ≡ written_error source (lexical_fault (view_lexer_error error.now) at) }
 {
-    fault_at(
+    error_at(
         table,
         lexical_reason(error),
         &Span::zero_width(at),
@@ -156,16 +156,16 @@ pub(crate) fn lexical_fault(table: &ByteTable, error: &LexerError, at: SourcePos
     )
 }
 
-fn fault_at(table: &ByteTable, reason: Reason, span: &Span, shown: Shown) -> Fault
+fn error_at(table: &ByteTable, reason: Reason, span: &Span, shown: Shown) -> Error
     ensures { (source : List ℕ) → IsTableOf source table.now → SpanFits (view_span span.now)
-        → result ≡ fault_at source reason (view_span span.now) shown }
+        → result ≡ error_at source reason (view_span span.now) shown }
 {
-    Fault {
+    Error {
         kind: reason.kind,
         detail: reason.detail,
         character: reason.character,
-        start: place_at(table, span.start),
-        end: place_at(table, span.end),
+        start: position_at(table, span.start),
+        end: position_at(table, span.end),
         text_start: table.byte(shown.start),
         text_end: table.byte(shown.end),
     }
