@@ -220,11 +220,13 @@ MANY = 70_000
 
 
 def large() -> Iterator[str]:
-    """The same document behind many nodes, tokens, lines, columns, characters, bytes of texts, parts and operations."""
+    """The same document, and a value or a type, behind many nodes, tokens, lines, columns, characters, bytes of texts, parts and
+    operations; and with a long name, a long string, a long list."""
+    for before in ("\n" * MANY, " " * MANY, "#" + "é𝄞" * (MANY // 2) + "\n"):
+        # The second is a value, and a type.
+        yield from (before + SMALL, before + "[T]")
+    yield from (SMALL.replace("T", "T" * MANY), "T" * MANY, '"' + "x" * MANY + '"', "[" + "1 " * MANY + '"é"]')
     yield "{a(b:[" + "1 " * MANY + "])}" + SMALL
-    yield "\n" * MANY + SMALL
-    yield " " * MANY + SMALL
-    yield "#" + "é𝄞" * (MANY // 2) + "\n" + SMALL
     yield '{a(b:"' + "x" * MANY + '")}' + SMALL
     yield "{" + "a" * MANY + "}" + SMALL
     yield "{a(" + "b:1 " * MANY + ")}" + SMALL
