@@ -160,10 +160,14 @@ def fragment_chain(keys, place, form, is_forward):
 DEEP = {**dict(values_of_documents()), **dict(selections()), **dict(types())}
 LONG = {**dict(directives()), **dict(parts()), **dict(fragments())}
 # What names of shapes have that are not needed where each part is asked for everything: what differs is in the library alone.
-MORE = ("beside [", "beside {", "a directive's argument:", "a default value:", "@d(x", "that aren't null", "(x: [1]", "backwards")
+MORE = (
+    "beside [", "beside {", "a directive's argument:", "a default value: objects,", "a default value: lists,", "@d(x", "that aren't null",
+    "(x: [1]", "backwards",
+)  # fmt: skip
 # Shapes of which one part is asked for something as large as all of it: they are larger where each part is asked for everything.
 LARGER = (
-    "an argument: objects", "an argument: lists", "keys in a row, distinct", "strings in a row", "arguments in a row, distinct",
+    "an argument: objects", "an argument: lists", "a default value: lists", "keys in a row, distinct", "strings in a row",
+    "arguments in a row, distinct",
 )  # fmt: skip
 VALUES = values("1")
 VALUES_OF_VARIABLES = values("$v")

@@ -4,9 +4,10 @@ sentences stands, word for word, in a comment directly above each clause of a ca
     // header: FIRTHNAPKIN_NOT_UTF8: the source is not UTF-8.
     ensures not_utf8 { result ≡ NOT_UTF8 → ¬ IsUtf8 source.now }
 
-Where no clause states it alone, it stands in scripts/unstated_promises, with a test, a law or a definition. Each clause has such a
-comment, and names what the comment's sentences name: statuses and parameters. The clause `statuses` has those that the header names
-of the call. What tables.toml makes, and what is said of macros, scripts/tables, scripts/version and scripts/sentences.py compare."""
+Where no clause states it alone, it stands in scripts/unstated_promises, with a test, a law or a definition, by words that its file has
+once. Each clause has such a comment, and names what the comment's sentences name: statuses and parameters. The clause `statuses` has
+those that the header names of the call. What tables.toml makes, and what is said of macros, scripts/tables, scripts/version and
+scripts/sentences.py compare."""
 
 import re
 from pathlib import Path
@@ -141,5 +142,5 @@ def compared():
             yield not missing, f"{call}: no clause below this names {', '.join(sorted(missing))}: {sentence}"
     for call, sentence, file, words in rows:
         yield sentence in header.said.get(call, []), f"scripts/unstated_promises: the header doesn't say of {call}: {sentence}"
-        is_there = file == "trusted" or (ROOT / file).is_file() and words and words in (ROOT / file).read_text(encoding="utf-8")
-        yield is_there, f"scripts/unstated_promises: {file} has no {words}"
+        text = (ROOT / file).read_text(encoding="utf-8") if (ROOT / file).is_file() else ""
+        yield file == "trusted" or words and text.count(words) == 1, f"scripts/unstated_promises: {file} has no {words}"

@@ -14,9 +14,12 @@ SIZES = {
         ("items.reserve_exact(expected) | if items.is_empty() {", GUESS),
         ("items.reserve(1)", ONE),
     ],
-    ("juniper_parser/src/parser/lists.rt", "expected_items"): [("if is_last { 1 } else { FEW }", GUESS)],
+    ("juniper_parser/src/parser/lists.rt", "expected_items"): [("if is_last { 1 } else { FEW } | const FEW: usize = 3;", GUESS)],
     ("juniper_parser/src/parser/selection.rt", "expected_selections"): [
-        ("if next_is(tokens, Kind::CurlyClose) { 1 } else if tokens.expected() < MANY_TOKENS { 3 } else { 6 }", GUESS)
+        (
+            "if next_is(tokens, Kind::CurlyClose) { 1 } else if tokens.expected() < MANY_TOKENS { 3 } else { 6 } | const MANY_TOKENS: usize = 128;",
+            GUESS,
+        )
     ],
     ("juniper_answers/src/copy.rt", "copy_items"): [("Vec::with_capacity(alloc, items.len())", EACH)],
     ("juniper_answers/src/copy.rt", "copy_object"): [("Object::with_capacity(alloc, object.field_count())", EACH)],
@@ -61,7 +64,9 @@ SIZES = {
     ("juniper_values/src/input_value/resolve.rt", "constant_items"): [("Vec::with_capacity(alloc, items.len())", EACH)],
     ("juniper_values/src/input_value/resolve.rt", "constant_fields"): [("Vec::with_capacity(alloc, fields.len())", EACH)],
     ("juniper_values/src/type_literal.rt", "grown"): [("Vec::with_capacity(alloc, inner.len() + 1)", EACH)],
-    ("test_harness/src/calls.rt", "tell_answers"): [("String::with_capacity(rt.alloc(), ROOM)", FIXED)],
+    ("test_harness/src/calls.rt", "tell_answers"): [
+        ("String::with_capacity(rt.alloc(), ROOM) | const ROOM: usize = 65536;", FIXED)
+    ],
     ("guide/src/executor.rt", "executed"): [("Object::with_capacity(alloc, operation.selection_set.len())", EACH)],
     ("guide/src/executor.rt", "constant_items"): [("Vec::with_capacity(alloc, items.len())", EACH)],
     ("guide/src/executor.rt", "constant_fields"): [("Object::with_capacity(alloc, fields.len())", EACH)],

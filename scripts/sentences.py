@@ -1,5 +1,6 @@
-"""What scripts/definitions compares of sentences: a number in prose that a contract, a definition or the header has, too. Each of these
-sentences stands in the documents that its row names and in no other, and a sentence with such words is in a row."""
+"""What scripts/definitions compares of sentences: a number in prose that a contract, a definition, the header or a test has, too. Each of
+these sentences stands in the documents that its row names and in no other. A sentence with such words is in a row, and so is each number
+from 1,000 on, unless it was measured."""
 
 import re
 from pathlib import Path
@@ -28,7 +29,22 @@ VALUES = {
     "before": ("crates/firthnapkin_results/specs/Excerpts.antt", r"then column - (\d+) "),
     "people": ("crates/firthnapkin_results/specs/Excerpts.antt", r"number = at\.line \+ (\d+);"),
     "programs": ("docs/man/gqlcheck.1", r" At (\d):"),
+    "made": ("tests/corpus.py", r"MADE = (\d+)"),
+    "many": ("tests/corpus.py", r"MANY = ([\d_]+)"),
+    "chain": ("tests/complexities.py", r"chain\(([\d_]+)\)"),
+    "operations": ("tests/check_complexities.py", r"in made\((\d+)\)"),
+    "digits": ("bindings/node/lib/values.js", r"MOST_DIGITS = (\d+)"),
+    "kept": ("bindings/kept.h", r"KEPT_SOURCE = 1 << (\d+)"),
+    "kept nodes": ("bindings/kept.h", r"KEPT_NODES = 1 << (\d+)"),
+    "first part": ("scripts/version", r"= (\d+) \* first"),
+    "of a test": ("tests/check_library", r"ulimit -s (\d+)"),
     "of a name": ("crates/juniper_tree/src/items.rt", r"option_copied result ≡ (first)_named name\.now"),
+}
+
+# For each number of things the file, and the words of each.
+COUNTED = {
+    "ways": ("tests/c/stack.c", r"^    (?:SAME\(|\{\")"),
+    "kinds": ("crates/graphql_lexical/src/kind.rt", r"^    [A-Z]\w+,$"),
 }
 
 # A sentence, with # for each number; the values that it has; and the documents.
@@ -69,12 +85,26 @@ SENTENCES = [
     ("(?i:`line` and `column`), both counted from #|olumns? for people count from #", ["people"], "go node rust"),
     ("(?:starts?|units), (?:both )?(?:counted )?from #", ["people"], "python types"),
     ("its line and column, both counted from #|bytes of UTF-8. So each is counted from #", ["programs"], "gqlcanon.1 gqlcheck.1 types"),
+    ("# made texts, and documents behind # nodes or lines", ["texts", "many"], "ASSURANCE"),
+    ("chains of #, and # made documents", ["chain", "operations"], "ASSURANCE"),
+    (r"(?:limit of |more than |accepts \()# (?:digits|by default)", ["digits"], "DECISIONS node python types"),
+    ("to # (?:source )?bytes and # nodes", ["kept bytes", "kept nodes"], "DECISIONS node"),
+    ("first part times #, the second", ["first part"], "header"),
+    ("at most # deep\\.", ["deepest"], "go"),
+    ("may take # KiB, and", ["KiB"], "DECISIONS"),
+    ("with # KiB of stack|runs within # KiB", ["of a test"], "ASSURANCE"),
+    ("in the # ways of nesting", ["ways"], "ASSURANCE"),
+    ("not for each of the # kinds", ["kinds"], "DECISIONS"),
     ("(?:return|find) the # of a name", ["of a name"], "ASSURANCE go node rust"),
 ]  # fmt: skip
 # Words of such sentences: they stand in a sentence of the table alone.
 MARKS = re.compile(
     r"always suffices?\b|rackets [^.]{0,12}nested [\d,]+|a depth of \d+ and|GiB or more|counted from \d|MAX_DEPTH` \(\d"
 )
+# A number of four digits or more, and what is said of it if it was measured. Some documents have what is measured or computed there.
+LARGE = re.compile(r"(?<![\w.,/#-])\d{1,3}(?:,\d{3})+(?!\w)")
+MEASURED = re.compile(r"[^.]*microseconds(?:[^.]|\.(?! ))*")
+OF_ITS_OWN = ("MEASUREMENTS", "COSTS", "CONTRIBUTING")
 WORDS = {"one": "1", "twice": "2", "long": "length"}
 NAMED = {"include/firthnapkin.h": "header", "bindings/node/index.d.ts": "types"}
 
@@ -98,10 +128,13 @@ def documents():
 
 def values():
     """The values, each as it is written, and those that follow from them."""
-    found = {
-        name: (re.search(words, (ROOT / file).read_text(encoding="utf-8")) or [""] * 2)[1] for name, (file, words) in VALUES.items()
-    }
-    stack, level, default, bits = (int(found[name] or 0) for name in ("stack", "level", "default", "bits"))
+    files = {file: (ROOT / file).read_text(encoding="utf-8") for file, _ in [*VALUES.values(), *COUNTED.values()]}
+    found = {name: (re.search(words, files[file]) or [""] * 2)[1].replace("_", "") for name, (file, words) in VALUES.items()}
+    found |= {name: str(len(re.findall(words, files[file], re.M))) for name, (file, words) in COUNTED.items()}
+    numbers = (int(found[name] or 0) for name in ("stack", "level", "default", "bits", "made", "kept", "kept nodes"))
+    stack, level, default, bits, made, kept, kept_nodes = numbers
+    # A source that is kept has the word of its length before it, and is shorter than the room for it.
+    found |= {"texts": str(2 * made), "kept bytes": str(2**kept - 5), "kept nodes": str(2**kept_nodes)}
     return {**found, "KiB": str((stack + level * default) // 1024), "half": str(level // 2), "GiB": str(2**bits >> 30),
             "most": str(2**bits - 2), "largest": str(2**bits - 1)}  # fmt: skip
 
@@ -122,5 +155,5 @@ def compared():
             yield those == allowed * (len(those) // len(allowed)), f"{name}: '{sentence}' has {those}, not {allowed}"
         left = {name: begun.sub("", text) for name, text in left.items()}
     for name, text in left.items():
-        found = MARKS.search(text)
-        yield not found, f"{name}: this is in no row of scripts/sentences.py: {found and text[max(0, found.start() - 60) : found.end() + 30]}"
+        found = MARKS.search(text) or (LARGE.search(MEASURED.sub("", text)) if name not in OF_ITS_OWN else None)
+        yield not found, f"{name}: this is in no row of scripts/sentences.py: {found and found.string[max(0, found.start() - 60) : found.end() + 30]}"

@@ -215,16 +215,24 @@ SMALL = (
     'query Q($v: [T!]! = [1, "é"] @d) { k: a(x: "𝄞\\n", y: {b: 1.5, c: E, d: $v, e: -7}) @d { ...F } ... on T { b } }\n'
     'fragment F on T { b @d(z: """\n é\n""") ... @d { c: d(l: [true, null, 9007199254740993]) } }'
 )
+# Each kind of part with more parts in it than made documents have.
+MARKS = "@d(x: 1) " * 9
+WIDE = (
+    f"query Q({'$v: [T] = [1] ' * 9} $w: T = [{'1 ' * 9}] {MARKS}) {MARKS} {{ {'b: a ' * 9} f({'x: 1 ' * 9} y: {{{'k: 1 ' * 9}}}) {MARKS}"
+    f"{{{'c ' * 9}}} ... on T {MARKS}{{{'c ' * 9}}} ...F {MARKS} }} fragment F on T {MARKS}{{{'c ' * 9}}}"
+)
 # More than 16 bits count.
 MANY = 70_000
 
 
 def large() -> Iterator[str]:
-    """The same document behind many nodes, tokens, lines, columns, characters, bytes of texts, parts and operations."""
+    """The same document, and a value or a type, behind many nodes, tokens, lines, columns, characters, bytes of texts, parts and
+    operations; and with a long name, a long string, a long list."""
+    for before in ("\n" * MANY, " " * MANY, "#" + "é𝄞" * (MANY // 2) + "\n"):
+        # The second is a value, and a type.
+        yield from (before + SMALL, before + "[T]")
+    yield from (SMALL.replace("T", "T" * MANY), "T" * MANY, '"' + "x" * MANY + '"', "[" + "1 " * MANY + '"é"]')
     yield "{a(b:[" + "1 " * MANY + "])}" + SMALL
-    yield "\n" * MANY + SMALL
-    yield " " * MANY + SMALL
-    yield "#" + "é𝄞" * (MANY // 2) + "\n" + SMALL
     yield '{a(b:"' + "x" * MANY + '")}' + SMALL
     yield "{" + "a" * MANY + "}" + SMALL
     yield "{a(" + "b:1 " * MANY + ")}" + SMALL
@@ -245,7 +253,7 @@ BEYOND = re.compile(r"[0-9][eE]\+?[0-9]{4}|[0-9]{309}")
 
 def texts(count: int = MADE) -> List[str]:
     shapes = [shape(size) for shape in growth_rows.TEXTS.values() for size in SHAPES]
-    every = dict.fromkeys([*of_rows(), *SCHEMAS, *shapes, *made(count), *literals(), *large()])
+    every = dict.fromkeys([*of_rows(), WIDE, *SCHEMAS, *shapes, *made(count), *literals(), *large()])
     return [text for text in every if not BEYOND.search(text)]
 
 

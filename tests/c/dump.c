@@ -9,9 +9,9 @@
  *     canonical   the canonical text, or an error
  *     error       null, or an error: kind, detail, character, message, start, end, line, column, excerpt
  *     within      the same of a parse within a depth of 3 and 20 tokens
- *     value       an error, or what the text is as a value: nodes, value
+ *     value       an error, or what the text is as a value: a part, with nodes, value
  *     constant    an error of the text as a value without variables, within that depth and tokens; otherwise null
- *     type        an error, or what the text is as a type: nodes, type
+ *     type        an error, or what the text is as a type: a part, with nodes, type
  *     document    null if there is an error, otherwise nodes, definitions, operations, fragments
  *
  * A position is [index, line, column, byte]. With --utf-16 index and column count UTF-16 units, as Node's package does. Of a source
@@ -340,7 +340,7 @@ static void definitions(const parsed *d, const char *key, int are_fragments, wri
 }
 
 static void nodes(const parsed *d) {
-    printf("{\"nodes\":[");
+    printf("\"nodes\":[");
     size_t first = first_written(d->length, d->count);
     for (size_t i = first; i < d->count; i++) {
         if (i > first) putchar(',');
@@ -350,6 +350,7 @@ static void nodes(const parsed *d) {
 }
 
 static void document(const parsed *d) {
+    putchar('{');
     nodes(d);
     printf(",\"definitions\":");
     indexes(d, 0, d->count);
@@ -386,6 +387,8 @@ static void literal(const uint8_t *source, size_t length, int is_type) {
     if (d.status != FIRTHNAPKIN_OK) {
         error_of(source, length, &d.error);
     } else {
+        part(&d, 0);
+        putchar(',');
         nodes(&d);
         printf(is_type ? ",\"type\":" : ",\"value\":");
         if (is_type)

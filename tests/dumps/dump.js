@@ -129,13 +129,13 @@ const documentOf = (document) => ({
 });
 
 function valueAlone(text) {
-  const { node, value } = firthnapkin.parseValue(text);
-  return { nodes: lastOf(node.document).map(nodeOf), value: valueOf(value, node) };
+  const found = firthnapkin.parseValue(text);
+  return part(found, { nodes: lastOf(found.node.document).map(nodeOf), value: valueOf(found.value, found.node) });
 }
 
 function typeAlone(text) {
-  const { node, type } = firthnapkin.parseType(text);
-  return { nodes: lastOf(node.document).map(nodeOf), type };
+  const found = firthnapkin.parseType(text);
+  return part(found, { nodes: lastOf(found.node.document).map(nodeOf), type: found.type });
 }
 
 function lineOf(text) {

@@ -142,12 +142,12 @@ def document_of(document: package.Document) -> Dict[str, Any]:
 
 def value_alone(text: str) -> Dict[str, Any]:
     found = package.parse_value(text)
-    return {"nodes": [node_of(it) for it in last_of(found.document)], "value": value_of(found.value)}
+    return part(found, nodes=[node_of(it) for it in last_of(found.document)], value=value_of(found.value))
 
 
 def type_alone(text: str) -> Dict[str, Any]:
     found = package.parse_type(text)
-    return {"nodes": [node_of(it) for it in last_of(found.document)], "type": found.type}
+    return part(found, nodes=[node_of(it) for it in last_of(found.document)], type=found.type)
 
 
 def line_of(text: str) -> Dict[str, Any]:

@@ -239,7 +239,7 @@ func valueAlone(text string) any {
 	if err != nil {
 		return errorOf(err)
 	}
-	return object{"nodes", nodesOf(found.Document()), "value", valueOf(found.Value())}
+	return partOf(found, "nodes", nodesOf(found.Document()), "value", valueOf(found.Value()))
 }
 
 func typeAlone(text string) any {
@@ -247,7 +247,7 @@ func typeAlone(text string) any {
 	if err != nil {
 		return errorOf(err)
 	}
-	return object{"nodes", nodesOf(found.Document()), "type", found.Type()}
+	return partOf(found, "nodes", nodesOf(found.Document()), "type", found.Type())
 }
 
 func documentOf(d *firthnapkin.Document) any {

@@ -234,23 +234,23 @@ fn document_of(document: &Document) -> String {
     )
 }
 
+/// `part` of a value or a type that is all of a source.
+fn whole(node: Node, document: &Document, meaning: (&str, String)) -> String {
+    let nodes = array(last_of(document.nodes()).map(node_of));
+    part(node, node.text(), node.line(), node.column(), excerpt_of(|| node.excerpt()), &[("nodes", nodes), meaning])
+}
+
 fn value_alone(source: &str) -> String {
     match firthnapkin::parse_value(source, Limits::default()) {
         Err(error) => error_of(error, source),
-        Ok(found) => {
-            let nodes = array(last_of(found.document().nodes()).map(node_of));
-            format!(r#"{{"nodes":{nodes},"value":{}}}"#, value_of(found.value()))
-        }
+        Ok(found) => whole(found.node(), found.document(), ("value", value_of(found.value()))),
     }
 }
 
 fn type_alone(source: &str) -> String {
     match firthnapkin::parse_type(source, Limits::default()) {
         Err(error) => error_of(error, source),
-        Ok(found) => {
-            let nodes = array(last_of(found.document().nodes()).map(node_of));
-            format!(r#"{{"nodes":{nodes},"type":{}}}"#, quoted(found.as_str()))
-        }
+        Ok(found) => whole(found.node(), found.document(), ("type", quoted(found.as_str()))),
     }
 }
 

@@ -15,7 +15,8 @@ const { texts } = require("../corpus.js");
 
 const firthnapkin = require(path.resolve(process.argv[2]));
 
-const CLASSES = new Set(Object.values(firthnapkin).filter((it) => typeof it === "function" && it.prototype !== undefined));
+const isClass = (it) => /^class\b/.test(it);
+const CLASSES = new Set(Object.values(firthnapkin).filter(isClass));
 const OPTIONS = { depth: firthnapkin.MAX_DEPTH };
 // What reads the source each time, and returns no part: a walk leaves it out.
 const READING = ["excerpt"];
@@ -126,11 +127,27 @@ const FUNCTIONS = {
   toGraphQL: (text) => firthnapkin.toGraphQL(firthnapkin.parse(text, OPTIONS)),
 };
 
+// What is given the text of the first value of a document, or of its first type, and not all of it.
+const LITERALS = {
+  parseValue: (text) => firthnapkin.parseValue(text, OPTIONS),
+  parseType: (text) => firthnapkin.parseType(text, OPTIONS),
+};
+const functions = new Set(Object.entries(firthnapkin).filter(([, it]) => typeof it === "function" && !isClass(it)).map(([name]) => name));
+
+function literalsOf(text) {
+  const nodes = [...firthnapkin.parse(text, OPTIONS)];
+  const first = { parseValue: nodes.find((it) => it.kind === "argument")?.children[0], parseType: nodes.find((it) => it.kind === "type") };
+  return Object.entries(first).filter(([, node]) => node !== undefined).map(([name, node]) => [name, node.text]);
+}
+
 function lineOf(text) {
   const found = {};
   for (const [name, call] of Object.entries(FUNCTIONS)) found[name] = measured(call, [text]);
+  const literals = literalsOf(text);
+  for (const [name, literal] of literals) found[name] = measured(LITERALS[name], [literal]);
+  for (const name of Object.keys(found)) functions.delete(name);
   const begin = used();
-  const reached = partsOf(rootsOf(text));
+  const reached = partsOf([...rootsOf(text), ...literals.map(([name, literal]) => LITERALS[name](literal))]);
   const walked = used() - begin;
   for (const [kind, parts] of reached)
     for (const [name, ask] of ASKED.get(kind)) found[`${kind.name}.${name}`] = measured(ask, parts);
@@ -143,3 +160,4 @@ function lineOf(text) {
 const all = texts(process.argv[3]);
 lineOf(all[0]);
 for (const text of all) fs.writeFileSync(process.stdout.fd, `${JSON.stringify(lineOf(text))}\n`);
+if (functions.size > 0) throw new Error(`${[...functions].join(", ")} are not asked`);

@@ -114,12 +114,28 @@ FUNCTIONS: Dict[str, Callable[[str], Any]] = {
     "tokens": package.tokens,
     "canonical": package.canonical,
 }
+# What is given the text of the first value of a document, or of its first type, and not all of it.
+LITERALS: Dict[str, Callable[[str], Any]] = {
+    "parse_value": lambda text: package.parse_value(text, depth=package.MAX_DEPTH),
+    "parse_type": lambda text: package.parse_type(text, depth=package.MAX_DEPTH),
+}
+functions = {name for name in package.__all__ if inspect.isfunction(getattr(package, name))}
+
+
+def literals_of(text: str) -> Dict[str, str]:
+    nodes = package.parse(text, depth=package.MAX_DEPTH)
+    values = [node.children[0].text for node in nodes if node.kind is package.Kind.ARGUMENT]
+    types = [node.text for node in nodes if node.kind is package.Kind.TYPE]
+    return {name: texts[0] for name, texts in (("parse_value", values), ("parse_type", types)) if texts}
 
 
 def line_of(text: str) -> Dict[str, Tuple[int, int, int]]:
     found = {name: measured(call, [text]) for name, call in FUNCTIONS.items()}
+    literals = literals_of(text)
+    found.update({name: measured(LITERALS[name], [literal]) for name, literal in literals.items()})
+    functions.difference_update(found)
     begin = time.thread_time_ns()
-    reached = parts_of(roots_of(text))
+    reached = parts_of([*roots_of(text), *(LITERALS[name](literal) for name, literal in literals.items())])
     walked = time.thread_time_ns() - begin
     for kind, parts in reached.items():
         found.update({f"{kind.__name__}.{name}": measured(ask, parts) for name, ask in asked_of(kind).items()})
@@ -130,3 +146,5 @@ def line_of(text: str) -> Dict[str, Tuple[int, int, int]]:
 
 for source in texts(sys.argv[1]):
     print(json.dumps(line_of(source)), flush=True)
+if functions:
+    sys.exit(f"{', '.join(functions)} are not asked")

@@ -131,7 +131,18 @@ func (p *parts) add(v reflect.Value) {
 	}
 }
 
-// reached returns all parts of a source, of its tokens, and of the error of a source that goes on wrongly.
+// first returns the text of the first node of a kind, or of one so many after it, if a document has one.
+func first(d *firthnapkin.Document, kind firthnapkin.Kind, after int) []string {
+	for i, node := range d.Nodes {
+		if node.Kind == kind {
+			return []string{d.Text(i + after)}
+		}
+	}
+	return nil
+}
+
+// reached returns all parts of a source, of its first value and its first type, each alone, of its tokens, and of the error of a
+// source that goes on wrongly.
 func reached(source string) map[reflect.Type][]reflect.Value {
 	document, err := firthnapkin.ParseWithin(source, limits)
 	if err != nil {
@@ -142,8 +153,17 @@ func reached(source string) map[reflect.Type][]reflect.Value {
 		panic(err)
 	}
 	_, err = firthnapkin.ParseWithin(source+" )", limits)
+	roots := []any{document, tokens, err}
+	for _, text := range first(document, firthnapkin.KindArgument, 1) {
+		value, _ := firthnapkin.ParseValue(text, limits)
+		roots = append(roots, value)
+	}
+	for _, text := range first(document, firthnapkin.KindType, 0) {
+		of, _ := firthnapkin.ParseType(text, limits)
+		roots = append(roots, of)
+	}
 	p := parts{source, map[any]bool{}, map[reflect.Type][]reflect.Value{}}
-	for _, root := range []any{document, tokens, err} {
+	for _, root := range roots {
 		p.add(reflect.ValueOf(root))
 	}
 	return p.found
@@ -195,6 +215,14 @@ func lineOf(source string) map[string]measured {
 		"Check":     func() { firthnapkin.Check(source, limits) },
 		"Tokens":    func() { firthnapkin.Tokens(source) },
 		"Canonical": func() { firthnapkin.Canonical(source) },
+	}
+	document, _ := firthnapkin.ParseWithin(source, limits)
+	for _, text := range first(document, firthnapkin.KindArgument, 1) {
+		functions["ParseValue"] = func() { firthnapkin.ParseValue(text, limits) }
+		functions["ParseConstValue"] = func() { firthnapkin.ParseConstValue(text, limits) }
+	}
+	for _, text := range first(document, firthnapkin.KindType, 0) {
+		functions["ParseType"] = func() { firthnapkin.ParseType(text, limits) }
 	}
 	found := map[string]measured{}
 	for name, call := range functions {

@@ -216,15 +216,17 @@ fn ask_document(found: &mut Found, document: &Document) {
 /// Asks the values of a document's arguments, and the types of its variables, each parsed alone.
 fn ask_literals(found: &mut Found, document: &Document, limits: Limits) {
     let arguments = document.nodes().filter(|it| it.kind() == Kind::Argument);
-    let values: Vec<Node> = arguments.filter_map(|it| it.children().next()).collect();
-    let values: Vec<ParsedValue> =
-        values.iter().map(|it| firthnapkin::parse_value(it.text(), limits).unwrap()).collect();
+    let values: Vec<&str> = arguments.filter_map(|it| it.children().next()).map(|it| it.text()).collect();
+    found.ask("parse_value", &values, |it| one(firthnapkin::parse_value(it, limits)));
+    found.ask("parse_const_value", &values, |it| one(firthnapkin::parse_const_value(it, limits)));
+    let values: Vec<ParsedValue> = values.iter().map(|it| firthnapkin::parse_value(it, limits).unwrap()).collect();
     asks!(found, "ParsedValue", &values; value() shown, node() one, document() one);
     found.ask("ParsedValue.into_owned", &values, |it| one(it.clone().into_owned()));
     let owned: Vec<_> = values.iter().map(|it| it.clone().into_owned()).collect();
     asks!(found, "OwnedValue", &owned; parsed() one, source() one, heap_size() one);
-    let types: Vec<Node> = document.nodes().filter(|it| it.kind() == Kind::Type).collect();
-    let types: Vec<ParsedType> = types.iter().map(|it| firthnapkin::parse_type(it.text(), limits).unwrap()).collect();
+    let types: Vec<&str> = document.nodes().filter(|it| it.kind() == Kind::Type).map(|it| it.text()).collect();
+    found.ask("parse_type", &types, |it| one(firthnapkin::parse_type(it, limits)));
+    let types: Vec<ParsedType> = types.iter().map(|it| firthnapkin::parse_type(it, limits).unwrap()).collect();
     asks!(found, "ParsedType", &types; as_str() text, node() one, document() one);
 }
 

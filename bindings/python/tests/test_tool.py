@@ -7,13 +7,18 @@ import pty
 import subprocess
 import sys
 import tempfile
+import unicodedata
 import unittest
 from typing import Any, Dict, List, Tuple, Union
 
 import firthnapkin
+from firthnapkin._reports import plain
 
 GOOD, BAD, SCHEMA = b"{ a }", b"{\n  a )\n}", b"type A { b: C }"
 REFUSED = 'bad.graphql:2:5: Unexpected ")"\n1 | {\n2 |   a )\n  |     ^\n3 | }\n'
+
+# What changes the order in which a text is shown.
+DIRECTIONS = "LRE RLE LRO RLO PDF LRI RLI FSI PDI".split()
 
 
 class Tool(unittest.TestCase):
@@ -338,6 +343,9 @@ class Outputs(Tool):
             {"file": "schema.graphql", "status": "schema"},
             {"file": "missing", "status": "unreadable", "message": "No such file or directory"},
         ]))  # fmt: skip
+        self.assertEqual(self.objects("check", "-", given=b"{ \xff")[1], [
+            {"file": "<stdin>", "status": "failed", "line": 1, "column": 3, "kind": "NOT_UTF8", "message": "Not UTF-8", "excerpt": "1 | { \ufffd\n  |   ^"},
+        ])  # fmt: skip
         self.assertEqual(self.objects("check", "good.graphql", "schema.graphql")[0], 0)
         self.assertEqual(self.objects("check", "schema.graphql", "--strict")[0], 1)
         self.assertEqual(
@@ -347,6 +355,7 @@ class Outputs(Tool):
     def test_json_of_parts(self) -> None:
         text = '{ a(b: 1e999, c: 99999999999, d: "é\ud83d") }'.encode("utf-8", "replace")
         status, (found,) = self.objects("nodes", "-", given=text)
+        self.assertEqual((status, found["file"], found["status"]), (0, "<stdin>", "passed"))
         self.assertEqual(found["nodes"][:2], [
             {"kind": "QUERY", "line": 1, "column": 1, "start": 0, "end": 40, "name": None, "value": None, "descendants": 8},
             {"kind": "FIELD", "line": 1, "column": 3, "start": 2, "end": 38, "name": "a", "value": None, "descendants": 7},
@@ -359,6 +368,12 @@ class Outputs(Tool):
 
     def test_controls(self) -> None:
         """What a terminal might obey is not shown as it is, and each character takes one place, so that the caret is right."""
+        every = "".join(map(chr, range(sys.maxunicode + 1)))
+        obeyed = {it for it in every if unicodedata.category(it) == "Cc" or unicodedata.bidirectional(it) in DIRECTIONS} - {
+            "\t",
+            "\n",
+        }
+        self.assertEqual(plain(every), "".join("\ufffd" if it in obeyed else it for it in every))
         status, written = self.tool("check", "-", given="{ # \u202e\x9b\n a \x1b[31m }".encode())
         self.assertEqual((status, written), (1, '<stdin>:2:4: Unknown character "\ufffd"\n'
                          "1 | { # \ufffd\ufffd\n2 |  a \ufffd[31m }\n  |    ^\n"))  # fmt: skip
@@ -408,6 +423,7 @@ class Exits(Tool):
             self.assertEqual(self.forced(name, "KeyboardInterrupt", command), (130, "", ""))
         for name, command in (("read", "check"), ("check", "nodes")):
             self.assertEqual(self.forced(name, "MemoryError", command), (2, "", "good.graphql: memory ran out\n"))
+        self.assertEqual(self.forced("check", "ValueError('4 GiB')", "check"), (2, "", "good.graphql: 4 GiB\n"))
         for name, command in (("canonical", "canonical"), ("parse", "nodes"), ("tokens", "tokens"), ("files_of", "check")):
             self.assertEqual(self.forced(name, "MemoryError", command), (2, "", "python -m firthnapkin: memory ran out\n"))
         full = "python -m firthnapkin: the output can't be written: No space left on device\n"
