@@ -132,7 +132,10 @@ const LITERALS = {
   parseValue: (text) => firthnapkin.parseValue(text, OPTIONS),
   parseType: (text) => firthnapkin.parseType(text, OPTIONS),
 };
-const functions = new Set(Object.entries(firthnapkin).filter(([, it]) => typeof it === "function" && !isClass(it)).map(([name]) => name));
+// The other public functions. Each is asked of every text.
+const functions = new Set(
+  Object.entries(firthnapkin).filter(([name, it]) => typeof it === "function" && !isClass(it) && !(name in LITERALS)).map(([name]) => name),
+);
 
 function literalsOf(text) {
   const nodes = [...firthnapkin.parse(text, OPTIONS)];

@@ -119,7 +119,8 @@ LITERALS: Dict[str, Callable[[str], Any]] = {
     "parse_value": lambda text: package.parse_value(text, depth=package.MAX_DEPTH),
     "parse_type": lambda text: package.parse_type(text, depth=package.MAX_DEPTH),
 }
-functions = {name for name in package.__all__ if inspect.isfunction(getattr(package, name))}
+# The other public functions. Each is asked of every text.
+functions = {name for name in package.__all__ if inspect.isfunction(getattr(package, name))}.difference(LITERALS)
 
 
 def literals_of(text: str) -> Dict[str, str]:
